@@ -1,2 +1,5 @@
 pub mod Names
 pub mod Reps
+pub mod Reserved
+pub mod Lines
+pub mod Formed
