@@ -1,0 +1,21 @@
+-- What a run of the program may end in, and what it then wrote.
+use Rattle.std.specs.Prelude.{◌≡◌, ℕ, ◌⊎◌, List, Option}
+use Rattle.std.specs.Io.KnownBytes.{Appends, Keeps}
+use Rattle.sepref_top.specs.Statuses.{line_of}
+use Rattle.sepref_top.specs.declared.status.Status.{Status}
+use Rattle.sepref_top.specs.declared.status.Status.TheVariants as status
+
+-- the longest input, in bytes
+abbrev pub longest : ℕ
+longest = 1048576
+
+-- this is the answer, unless the write of its line failed
+abbrev pub AnswersUnlessLost : Status → Status → Type 0
+AnswersUnlessLost wanted result = (result ≡ wanted) ⊎ (result ≡ status.WriteFault)
+
+-- what went to the sink: the output, the status's line, some front of them, or nothing
+abbrev pub Wrote : Status → Option (List ℕ) → Option (List ℕ) → Type 0
+Wrote status.Done old new = (text : List ℕ) × Appends old new text
+Wrote status.WriteFault old new = (front : List ℕ) × Appends old new front
+Wrote status.Memory old new = Keeps old new
+Wrote s old new = Appends old new (line_of s)

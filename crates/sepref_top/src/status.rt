@@ -1,0 +1,54 @@
+//! How a run ended.
+
+ghost use Rattle.std.specs.Prelude.{◌≡◌};
+
+/// How a run of the program ended. Each status but `Done`, `WriteFault` and `Memory` has written its line.
+#[derive(Clone, Copy, PartialEq, Eq, Debug)]
+pub enum Status {
+    /// The output was written whole.
+    Done,
+    /// The words are no command line.
+    Usage,
+    /// The source gave more than 1,048,576 bytes.
+    TooLong,
+    /// A read failed.
+    ReadFault,
+    /// A write failed; what went out is a prefix of what was to be written.
+    WriteFault,
+    /// There was no memory. Nothing was written.
+    Memory,
+    /// What was asked for is not built yet.
+    NotYet,
+}
+
+impl Status {
+    ghost use Rattle.sepref_top.specs.Statuses.{code_of, line_of};
+
+    /// The number with which the program ends.
+    pub fn code(self) -> u8
+        ensures { result ≡ code_of self }
+    {
+        match self {
+            Status::Done => 0,
+            Status::Usage => 1,
+            Status::TooLong => 11,
+            Status::ReadFault => 20,
+            Status::WriteFault => 21,
+            Status::Memory => 30,
+            Status::NotYet => 40,
+        }
+    }
+
+    /// The line that tells it, with its line feed; nothing where no line is written.
+    pub(crate) fn line(self) -> &'static [u8]
+        ensures { result.now ≡ line_of self }
+    {
+        match self {
+            Status::Usage => b"! usage\n",
+            Status::TooLong => b"! too long\n",
+            Status::ReadFault => b"! read fault\n",
+            Status::NotYet => b"! not yet\n",
+            Status::Done | Status::WriteFault | Status::Memory => b"",
+        }
+    }
+}
