@@ -65,23 +65,25 @@ impl MemSink {
 }
 
 impl Sink for MemSink {
-    ghost use Rattle.sep_io.specs.Streams.{mem_room, is_full};
-    ghost use Rattle.sep_io.specs.Scripts.{fails_now, after_call, after_fault};
+    ghost use Rattle.sep_io.specs.Streams.{mem_room, is_full, after_write};
+    ghost use Rattle.sep_io.specs.Scripts.{fails_now};
 
     ghost contents = { λ s. Some s.bytes.items };
 
     ghost faults = { λ s. s.script.faults };
 
     fn write(&mut self, piece: &[u8]) -> Result<usize, Failed>
-        ensures fails { IsErr result ↔ ((fails_now self.old.script || is_full (mem_room self.old) piece.now) ≡ true) }
+        ensures fails { IsErr result
+            ↔ ((fails_now self.old.script || is_full (mem_room self.old) piece.now) ≡ true) }
         ensures takes { IfOk result (λ n. n ≡ min (min (length piece.now) self.old.most) (mem_room self.old)) }
         ensures bound { WritesAtMost result piece.now }
         ensures bytes { WriteAppends (Some self.old.bytes.items) (Some self.new.bytes.items) result piece.now }
         ensures failed { OnErr result (Rose self.old.script.faults self.new.script.faults) }
-        ensures nothing { IfOk result (λ n. n ≡ 0 → 0 < length piece.now → Rose self.old.script.faults self.new.script.faults) }
+        ensures nothing { IfOk result (λ n. n ≡ 0 → 0 < length piece.now
+            → Rose self.old.script.faults self.new.script.faults) }
         ensures count { self.old.script.faults ≤ self.new.script.faults }
         ensures rest { (self.new.room ≡ self.old.room) × (self.new.most ≡ self.old.most) }
-        ensures script { self.new.script ≡ (let called = after_call self.old.script in if fails_now self.old.script then called else (if is_full (mem_room self.old) piece.now then after_fault called else called)) }
+        ensures script { self.new.script ≡ after_write self.old piece.now }
     {
         if self.script.call_fails() {
             return Err(Failed);
@@ -135,9 +137,12 @@ impl Sink for WholeSink {
         ensures bound { WritesAtMost result piece.now }
         ensures bytes { WriteAppends (Some self.old.bytes.items) (Some self.new.bytes.items) result piece.now }
         ensures failed { OnErr result (Rose self.old.faults self.new.faults) }
-        ensures nothing { IfOk result (λ n. n ≡ 0 → 0 < length piece.now → Rose self.old.faults self.new.faults) }
+        ensures nothing { IfOk result (λ n. n ≡ 0 → 0 < length piece.now
+            → Rose self.old.faults self.new.faults) }
         ensures count { self.old.faults ≤ self.new.faults }
-        ensures rest { (self.new.room ≡ self.old.room) × (self.new.faults ≡ (if is_full (whole_room self.old) piece.now then counted self.old.faults else self.old.faults)) }
+        ensures room { self.new.room ≡ self.old.room }
+        ensures faults { self.new.faults ≡ (if is_full (whole_room self.old) piece.now
+            then counted self.old.faults else self.old.faults) }
     {
         let room = self.room - self.bytes.len();
         if room == 0 && !piece.is_empty() {

@@ -18,7 +18,8 @@ pub fn read_all<S: Source>(alloc: Global, source: &mut S, limit: u64) -> Result<
     ensures end { OnOk result (IsAtEnd (S.remaining source.new)) }
 
     // The source is too long exactly where it gave more than `limit` bytes, and it then gave one more.
-    ensures gave { (n : ℕ) × (Gave (S.remaining source.old) (S.remaining source.new) n × ((IsErrOf result ReadEnd.TooLong ↔ (limit < n)) × (n ≤ limit + 1))) }
+    ensures gave { (n : ℕ) × (Gave (S.remaining source.old) (S.remaining source.new) n
+        × ((IsErrOf result ReadEnd.TooLong ↔ (limit < n)) × (n ≤ limit + 1))) }
 
     ensures fault { IsErrOf result ReadEnd.Fault → Rose (S.faults source.old) (S.faults source.new) }
     ensures count { S.faults source.old ≤ S.faults source.new }

@@ -1,5 +1,5 @@
 -- Which words are a command line.
-use Rattle.std.specs.Prelude.{ℕ, List, [], ◌∷◌, codes, Option, Some, None, if◌then◌else◌}
+use Rattle.std.specs.Prelude.{ℕ, List, [], ◌∷◌, codes, map, string_bytes, String, Option, Some, None, if◌then◌else◌}
 use Rattle.std.specs.Str.{bytes_eq}
 use Rattle.sepref_top.specs.declared.words.Command.{Command}
 use Rattle.sepref_top.specs.declared.words.Command.TheVariants as command
@@ -18,3 +18,7 @@ command_of_word word =
 abbrev pub command_of : List (List ℕ) → Option Command
 command_of (word ∷ []) = command_of_word word
 command_of _ = None
+
+-- what the words after the program's name ask for; none where they are no command line
+abbrev pub asked : {A : Type 0} → List (String A) → Option Command
+asked words = command_of (map string_bytes words)

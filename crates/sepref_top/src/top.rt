@@ -1,11 +1,10 @@
 //! The call that does all that waits for nobody.
 
-ghost use Rattle.std.specs.Prelude.{ℕ, List, ◌≡◌, ◌≢◌, ◌<◌, ◌≤◌, map, string_bytes, Some, None, IfOk, IfErr, MatchResult, OnOk, OnErr};
-ghost use Rattle.std.specs.Io.KnownBytes.{Appends, Consumes, IsAtEnd, Keeps};
+ghost use Rattle.std.specs.Prelude.{ℕ, List, ◌≡◌, ◌≢◌, ◌<◌, ◌≤◌, Some, None, IfErr, OnOk};
+ghost use Rattle.std.specs.Io.KnownBytes.{Appends, IsAtEnd};
 ghost use Rattle.sep_io.specs.Faults.{Rose, Gave};
-ghost use Rattle.sepref_top.specs.Words.{command_of};
-ghost use Rattle.sepref_top.specs.Outcome.{longest, AnswersUnlessLost, Wrote};
-ghost use Rattle.sepref_top.specs.Statuses.{line_of};
+ghost use Rattle.sepref_top.specs.Words.{asked};
+ghost use Rattle.sepref_top.specs.Outcome.{longest, AnswersUnlessLost, TellsLength, Wrote};
 
 use crate::reader::read;
 use crate::status::Status;
@@ -28,14 +27,15 @@ fn synth(alloc: Global, text: &[u8]) -> Result<Vec<u8>, Unserved> {
 
 /// What is to be written, or the status that refuses it.
 fn answer<S: Source>(alloc: Global, words: &[String], source: &mut S) -> Result<Vec<u8>, Status>
-    ensures done { OnOk result (command_of (map string_bytes words.now) ≡ Some Command.Synth) }
+    ensures done { OnOk result (asked words.now ≡ Some Command.Synth) }
     ensures refused { IfErr result (λ s. (s ≢ Status.Done) × (s ≢ Status.WriteFault)) }
-    ensures usage { IfErr result (λ s. s ≡ Status.Usage → command_of (map string_bytes words.now) ≡ None) }
-    ensures no_command { command_of (map string_bytes words.now) ≡ None → result ≡ Err Status.Usage }
-    ensures not_yet { IfErr result (λ s. s ≡ Status.NotYet → command_of (map string_bytes words.now) ≢ None) }
+    ensures usage { IfErr result (λ s. s ≡ Status.Usage → asked words.now ≡ None) }
+    ensures no_command { asked words.now ≡ None → result ≡ Err Status.Usage }
+    ensures not_yet { IfErr result (λ s. s ≡ Status.NotYet → asked words.now ≢ None) }
     ensures fault { IfErr result (λ s. s ≡ Status.ReadFault → Rose (S.faults source.old) (S.faults source.new)) }
-    ensures gave { (n : ℕ) × (Gave (S.remaining source.old) (S.remaining source.new) n × ((longest < n → result ≡ Err Status.TooLong) × (IfErr result (λ s. s ≡ Status.TooLong → longest < n)))) }
-    ensures unread { command_of (map string_bytes words.now) ≡ None → source.new ≡ source.old }
+    ensures gave { (n : ℕ) × (Gave (S.remaining source.old) (S.remaining source.new) n
+        × ((longest < n → result ≡ Err Status.TooLong) × (IfErr result (λ s. s ≡ Status.TooLong → longest < n)))) }
+    ensures unread { asked words.now ≡ None → source.new ≡ source.old }
     ensures end { OnOk result (IsAtEnd (S.remaining source.new)) }
     ensures count { S.faults source.old ≤ S.faults source.new }
 {
@@ -62,8 +62,10 @@ fn answer<S: Source>(alloc: Global, words: &[String], source: &mut S) -> Result<
 fn write_output<K: Sink>(sink: &mut K, output: &[u8], status: Status) -> Status
     ensures status { AnswersUnlessLost status result }
     ensures whole { result ≢ Status.WriteFault → Appends (K.contents sink.old) (K.contents sink.new) output.now }
-    ensures front { result ≡ Status.WriteFault → status ≢ Status.WriteFault → (front : List ℕ) × Appends (K.contents sink.old) (K.contents sink.new) front }
-    ensures fault { result ≡ Status.WriteFault → status ≢ Status.WriteFault → Rose (K.faults sink.old) (K.faults sink.new) }
+    ensures front { result ≡ Status.WriteFault → status ≢ Status.WriteFault
+        → (front : List ℕ) × Appends (K.contents sink.old) (K.contents sink.new) front }
+    ensures fault { result ≡ Status.WriteFault → status ≢ Status.WriteFault
+        → Rose (K.faults sink.old) (K.faults sink.new) }
     ensures count { K.faults sink.old ≤ K.faults sink.new }
 {
     match write_all(sink, output) {
@@ -82,17 +84,18 @@ pub fn calm_main<S: Source, K: Sink>(
     sink: &mut K,
 ) -> Status
     // The words are no command line exactly where the answer is `Usage`, and then nothing is read.
-    ensures usage { result ≡ Status.Usage → command_of (map string_bytes words.now) ≡ None }
-    ensures no_command { command_of (map string_bytes words.now) ≡ None → AnswersUnlessLost Status.Usage result }
-    ensures unread { command_of (map string_bytes words.now) ≡ None → source.new ≡ source.old }
+    ensures usage { result ≡ Status.Usage → asked words.now ≡ None }
+    ensures no_command { asked words.now ≡ None → AnswersUnlessLost Status.Usage result }
+    ensures unread { asked words.now ≡ None → source.new ≡ source.old }
 
     // The source is too long exactly where it gave more than 1,048,576 bytes.
-    ensures gave { (n : ℕ) × (Gave (S.remaining source.old) (S.remaining source.new) n × ((longest < n → AnswersUnlessLost Status.TooLong result) × (result ≡ Status.TooLong → longest < n))) }
+    ensures length { TellsLength result (S.remaining source.old) (S.remaining source.new) }
 
     ensures read_fault { result ≡ Status.ReadFault → Rose (S.faults source.old) (S.faults source.new) }
     ensures write_fault { result ≡ Status.WriteFault → Rose (K.faults sink.old) (K.faults sink.new) }
-    ensures not_yet { result ≡ Status.NotYet → command_of (map string_bytes words.now) ≢ None }
-    ensures done { result ≡ Status.Done → (command_of (map string_bytes words.now) ≡ Some Command.Synth) × IsAtEnd (S.remaining source.new) }
+    ensures not_yet { result ≡ Status.NotYet → asked words.now ≢ None }
+    ensures done { result ≡ Status.Done
+        → (asked words.now ≡ Some Command.Synth) × IsAtEnd (S.remaining source.new) }
 
     // The output or the line was written whole, or after a failed write a front of it; at `Memory` nothing was written.
     ensures wrote { Wrote result (K.contents sink.old) (K.contents sink.new) }

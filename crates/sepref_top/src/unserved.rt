@@ -36,6 +36,10 @@ impl<T: Drop> From<AllocFailed<T>> for Unserved {
 }
 
 impl From<LexRefusal> for Unserved {
+    ghost use Rattle.sepref_top.specs.Refusals.{by_tokens};
+
+    ghost from_gives = { λ r e. e ≡ by_tokens r };
+
     fn from(refusal: LexRefusal) -> Unserved {
         match refusal {
             LexRefusal::At(_) => Unserved::OtherForm,
@@ -45,6 +49,10 @@ impl From<LexRefusal> for Unserved {
 }
 
 impl From<NameRefusal> for Unserved {
+    ghost use Rattle.sepref_top.specs.Refusals.{by_name};
+
+    ghost from_gives = { λ r e. e ≡ by_name r };
+
     fn from(refusal: NameRefusal) -> Unserved {
         match refusal {
             NameRefusal::NotAName => Unserved::OtherForm,

@@ -161,9 +161,8 @@ fn spans(alloc: Global, hands: &[Hand]) -> Result<Branch, Fail> {
     })
 }
 
-#[test]
-fn blocks_and_spans(rt: HostRuntime) -> Result<(), Fail> {
-    let alloc = rt.alloc();
+/// A loop whose body hands a span and a whole block.
+fn handing_loop(alloc: Global) -> Result<Items<Instr>, Fail> {
     let span = Hand {
         block: 0,
         span: Some((1, 2)),
@@ -182,18 +181,26 @@ fn blocks_and_spans(rt: HostRuntime) -> Result<(), Fail> {
         )?,
         right: spans(alloc, &[])?,
     })?;
-    let mut yes = Items::new(alloc);
-    yes.push(Instr::While {
+    let mut list = Items::new(alloc);
+    list.push(Instr::While {
         cond: Code {
             list: Items::new(alloc),
         },
         test: 1,
         body: Code { list: body },
     })?;
+    Ok(list)
+}
+
+#[test]
+fn blocks_and_spans(rt: HostRuntime) -> Result<(), Fail> {
+    let alloc = rt.alloc();
     let mut main = empty(alloc, b"main", 0, 4, &[])?;
     main.code.list.push(Instr::If {
         test: 0,
-        yes: Code { list: yes },
+        yes: Code {
+            list: handing_loop(alloc)?,
+        },
         no: Code {
             list: Items::new(alloc),
         },

@@ -1,6 +1,6 @@
 //! Lines as text.
 
-ghost use Rattle.std.specs.Prelude.{◌≡◌, ◌++◌, decimal, OnOk};
+ghost use Rattle.std.specs.Prelude.{◌≡◌, ◌++◌, codes, decimal, OnOk};
 ghost use Rattle.target_text.specs.Words.{calc_text};
 ghost use Rattle.target_text.specs.Texts as texts;
 
@@ -194,71 +194,89 @@ fn calculation(
     register(out, right)
 }
 
+/// A word and a register.
+fn word(out: &mut Vec<u8>, word: &[u8], from: u32) -> Result<(), AllocError>
+    ensures { OnOk result (out.new.items ≡ out.old.items ++ (word.now ++ texts.register_text from)) }
+{
+    out.extend_from_slice(word)?;
+    register(out, from)
+}
+
+/// A register, a word and a register.
+fn assign(out: &mut Vec<u8>, to: u32, text: &[u8], from: u32) -> Result<(), AllocError>
+    ensures { OnOk result (out.new.items ≡ out.old.items ++ (texts.register_text to ++ (text.now ++ texts.register_text from))) }
+{
+    register(out, to)?;
+    word(out, text, from)
+}
+
+fn constant(out: &mut Vec<u8>, to: u32, value: u64) -> Result<(), AllocError>
+    ensures { OnOk result (out.new.items ≡ out.old.items ++ (texts.register_text to ++ (codes " = const " ++ decimal value))) }
+{
+    register(out, to)?;
+    out.extend_from_slice(b" = const ")?;
+    number(out, value)
+}
+
+fn load(out: &mut Vec<u8>, to: u32, block: u32, index: u32) -> Result<(), AllocError>
+    ensures { OnOk result (out.new.items ≡ out.old.items ++ (texts.register_text to ++ (codes " = load " ++ (texts.register_text block ++ (codes " " ++ texts.register_text index))))) }
+{
+    assign(out, to, b" = load ", block)?;
+    word(out, b" ", index)
+}
+
+fn store(out: &mut Vec<u8>, block: u32, index: u32, value: u32) -> Result<(), AllocError>
+    ensures { OnOk result (out.new.items ≡ out.old.items ++ (codes "store " ++ (texts.register_text block ++ (codes " " ++ (texts.register_text index ++ (codes " " ++ texts.register_text value)))))) }
+{
+    word(out, b"store ", block)?;
+    word(out, b" ", index)?;
+    word(out, b" ", value)
+}
+
+fn call(out: &mut Vec<u8>, to: &[u32], name: &[u8], args: &[u32]) -> Result<(), AllocError>
+    ensures { OnOk result (out.new.items ≡ out.old.items ++ (texts.targets_text to.now ++ (codes "call " ++ texts.use_text name.now args.now))) }
+{
+    targets(out, to)?;
+    out.extend_from_slice(b"call ")?;
+    application(out, name, args)
+}
+
+fn par(out: &mut Vec<u8>, lends: bool, left: &Branch, right: &Branch) -> Result<(), AllocError>
+    ensures { OnOk result (out.new.items ≡ out.old.items ++ (codes "par " ++ (texts.branch_text lends left.now ++ (codes " | " ++ texts.branch_text lends right.now)))) }
+{
+    out.extend_from_slice(b"par ")?;
+    branch(out, lends, left)?;
+    out.extend_from_slice(b" | ")?;
+    branch(out, lends, right)
+}
+
 /// The first line of an instruction.
 pub fn instr(out: &mut Vec<u8>, lends: bool, instr: &Instr) -> Result<(), AllocError>
     ensures { OnOk result (out.new.items ≡ out.old.items ++ texts.instr_text lends instr.now) }
 {
     match instr {
-        Instr::Const { to, value } => {
-            register(out, *to)?;
-            out.extend_from_slice(b" = const ")?;
-            number(out, *value)
-        }
-        Instr::Mov { to, from } => {
-            register(out, *to)?;
-            out.extend_from_slice(b" = mov ")?;
-            register(out, *from)
-        }
+        Instr::Const { to, value } => constant(out, *to, *value),
+        Instr::Mov { to, from } => assign(out, *to, b" = mov ", *from),
         Instr::Calc {
             to,
             word,
             left,
             right,
         } => calculation(out, *to, *word, *left, *right),
-        Instr::Load { to, block, index } => {
-            register(out, *to)?;
-            out.extend_from_slice(b" = load ")?;
-            register(out, *block)?;
-            out.extend_from_slice(b" ")?;
-            register(out, *index)
-        }
+        Instr::Load { to, block, index } => load(out, *to, *block, *index),
         Instr::Store {
             block,
             index,
             value,
-        } => {
-            out.extend_from_slice(b"store ")?;
-            register(out, *block)?;
-            out.extend_from_slice(b" ")?;
-            register(out, *index)?;
-            out.extend_from_slice(b" ")?;
-            register(out, *value)
-        }
-        Instr::Alloc { to, len } => {
-            register(out, *to)?;
-            out.extend_from_slice(b" = alloc ")?;
-            register(out, *len)
-        }
-        Instr::Free { block } => {
-            out.extend_from_slice(b"free ")?;
-            register(out, *block)
-        }
-        Instr::If { test, .. } => {
-            out.extend_from_slice(b"if ")?;
-            register(out, *test)
-        }
+        } => store(out, *block, *index, *value),
+        Instr::Alloc { to, len } => assign(out, *to, b" = alloc ", *len),
+        Instr::Free { block } => word(out, b"free ", *block),
+        Instr::If { test, .. } => word(out, b"if ", *test),
         Instr::While { .. } => out.extend_from_slice(b"while"),
         Instr::Call { to, proc, args } => {
-            targets(out, to.as_slice())?;
-            out.extend_from_slice(b"call ")?;
-            application(out, proc.bytes(), args.as_slice())
+            call(out, to.as_slice(), proc.bytes(), args.as_slice())
         }
-        Instr::Par { left, right } => {
-            out.extend_from_slice(b"par ")?;
-            branch(out, lends, left)?;
-            out.extend_from_slice(b" | ")?;
-            branch(out, lends, right)
-        }
+        Instr::Par { left, right } => par(out, lends, left, right),
     }
 }
 
