@@ -1,0 +1,5 @@
+pub mod Containers
+pub mod FirstText
+pub mod Mirrored
+pub mod FlatMirrored
+pub mod FirstTree

@@ -1,12 +1,30 @@
-//! Specifications: their tokens, and the trees that a reader makes of them, with the places at which their parts stand.
+//! Specifications: their values, tokens, trees and rules. A reader makes a tree of tokens, typing gives each word an
+//! operation, and flattening leaves one operation in each bind.
 #![tactic(auto)]
 
+mod flat;
+mod identified;
+pub mod laws;
+mod nums;
+mod op;
 mod place;
+mod refusal;
+mod row;
+#[cfg(test)]
+mod tests;
 mod token;
 mod tree;
 mod ty;
+mod value;
 
+pub use flat::{Arg, Flat, FlatBind, FlatBlock, FlatFun};
+pub use identified::{IdBlock, IdBody, IdExpr, IdFun, IdStep, Identified};
+pub use nums::{NumBag, NumMap, NumSet, Nums};
+pub use op::Op;
 pub use place::{Named, Place};
+pub use refusal::{Refusal, Why};
+pub use row::{Fate, Kind, LibName, Row, RowCode};
 pub use token::{Piece, Token, TokenKind};
-pub use tree::{Block, Body, Chosen, Expr, Fun, Param, Shown, Spec, Step};
+pub use tree::{Block, Body, Chosen, Expr, Fun, Param, Shown, Spec, Step, Typing, With};
 pub use ty::Ty;
+pub use value::Value;

@@ -1,7 +1,9 @@
 //! The tree of a specification.
 
+use crate::op::Op;
 use crate::place::{Named, Place};
 use crate::ty::Ty;
+use crate::value::Value;
 use sqlite_items::{Boxed, Items};
 use target_code::{Calc, Name, Rep};
 
@@ -214,4 +216,24 @@ pub enum Expr {
         args: Items<Expr>,
         made: Option<Chosen>,
     },
+}
+
+/// A value that a text gives to a parameter.
+#[derive(Drop)]
+pub struct With {
+    /// The name of the parameter.
+    pub name: Name,
+    /// The place of the name.
+    pub place: Place,
+    /// The value.
+    pub value: Value,
+}
+
+/// The types of a specification, in the order of its text.
+#[derive(Debug, Drop)]
+pub struct Typing {
+    /// The types of all names that are bound.
+    pub binders: Items<Ty>,
+    /// The operation of each operation word.
+    pub words: Items<Op>,
 }

@@ -1,0 +1,7 @@
+pub mod FirstTree
+pub mod FlatGrowth
+pub mod Follows
+pub mod Growth
+pub mod Lively
+pub mod Shown
+pub mod Steps
