@@ -1,0 +1,4 @@
+pub mod Small
+pub mod Layouts
+pub mod Tables
+pub mod Others

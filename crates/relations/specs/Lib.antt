@@ -1,0 +1,6 @@
+pub mod Blocks
+pub mod Represents
+pub mod Values
+pub mod ResultLines
+pub mod Samples
+pub mod Laws

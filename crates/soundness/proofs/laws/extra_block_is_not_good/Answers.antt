@@ -1,0 +1,5 @@
+use Rattle.soundness.proofs.Ends.{extra_block_is_not_good}
+use Rattle.soundness.proofs.laws.extra_block_is_not_good.Goals as goal
+
+pub returns : goal.returns
+returns c = extra_block_is_not_good

@@ -1,0 +1,71 @@
+-- Laws of starts, ends and shapes, as facts.
+use Rattle.std.specs.Prelude.{◌≡◌, ℕ, true, List, [], ◌∷◌, ◌++◌}
+use Rattle.nres_core.specs.Samples.{first_tree}
+use Rattle.nres_core.specs.declared.tree.Spec.{Spec}
+use Rattle.nres_core.specs.declared.value.Value.{Value}
+use Rattle.nres_core.specs.declared.value.Value.TheVariants as v
+use Rattle.target_code.specs.declared.tree.Proc.{Proc}
+use Rattle.target_code.specs.declared.tree.Program.{Program}
+use Rattle.target_meaning.specs.Leaf.{End}
+use Rattle.target_meaning.specs.Machine.{Never, Freed, Heap, Tree, Leaf, no_blocks, with_blocks}
+use Rattle.target_meaning.specs.Piece.{Nil, Piece, none}
+use Rattle.target_meaning.specs.Held.{IsHeld}
+use Rattle.target_meaning.specs.Runs.{IsLive}
+use Rattle.target_meaning.specs.Samples.{reading, reading_heap, start}
+use Rattle.relations.specs.Blocks.{block, whole_piece}
+use Rattle.relations.specs.Samples.{set_of}
+use Rattle.relations.specs.Values.{union}
+use Rattle.soundness.specs.Good.{Good, kept_pieces}
+use Rattle.soundness.specs.Nodes.{Nodes, End_node, If_node, SpecTree, CodeTree}
+use Rattle.soundness.specs.Samples.{first_flat, first_program, array_get, two_gets, two_flat, two_program, one_by_one, get_or_not, get_node, no_choice, one_load, size_program, gone_heap}
+use Rattle.soundness.specs.Shape.{Shape, any_side}
+use Rattle.soundness.specs.Start.{Start}
+
+abbrev pub FirstHasShape : Type 0
+FirstHasShape = Shape (array_get ∷ []) first_flat first_program
+
+abbrev pub ParHasShape : Type 0
+ParHasShape = Shape (array_get ∷ []) two_flat two_program
+
+abbrev pub SequenceIsNoPar : Type 0
+SequenceIsNoPar =
+    (procs : List Proc) (own : ℕ) (ns : Nodes) (bs : List (List ℕ))
+    → SpecTree any_side two_gets ns → CodeTree procs own one_by_one ns bs → ⊥
+
+-- a choice with nothing in it is a node; an `either` has the tree of one of its sides, of the one that is taken where that is given; a load has no tree
+pub record NodesSeen : Type 0 where
+  pub choice : CodeTree [] 0 no_choice (If_node End_node End_node End_node) []
+  pub left : SpecTree any_side get_or_not get_node
+  pub right : SpecTree any_side get_or_not End_node
+  pub taken : (ns : Nodes) → SpecTree (λ p left. true ≡ left) get_or_not ns → ns ≡ get_node
+  pub load : (procs : List Proc) (own : ℕ) (ns : Nodes) (bs : List (List ℕ)) → ¬ CodeTree procs own one_load ns bs
+
+abbrev pub FirstStarts : Type 0
+FirstStarts = Start first_program (v.List (7 ∷ 8 ∷ []) ∷ []) (start reading (1 ∷ 0 ∷ 2 ∷ [])) reading_heap
+
+abbrev pub GoneStarts : Type 0
+GoneStarts = Start size_program (v.Set (set_of (0 ∷ 16 ∷ [])) ∷ []) (start size_program.procs (5 ∷ 8 ∷ 2 ∷ 3 ∷ [])) gone_heap
+
+abbrev pub LiveBlocksAreClaimed : Type 0
+LiveBlocksAreClaimed =
+    (p : Spec) (T : Program) (us : List Value) (ps : List Piece) (t : Tree Piece) (h : Heap) (good : Good p T us ps t h) (b : ℕ)
+    → IsLive (h.cells b) → IsHeld (union (good.outs ++ kept_pieces T.ins ps) b 0)
+
+-- a block that was made and of which no result or kept input holds the name was freed
+abbrev pub OthersAreFreed : Type 0
+OthersAreFreed =
+    (p : Spec) (T : Program) (us : List Value) (ps : List Piece) (t : Tree Piece) (h : Heap) (good : Good p T us ps t h) (b : ℕ)
+    → union (good.outs ++ kept_pieces T.ins ps) b 0 ≡ Nil → ¬ (h.cells b ≡ Never) → h.cells b ≡ Freed
+
+-- the list 1, 2 in block 1, and nothing else; `first` has ended with 1
+abbrev pub FirstEndsWell : Type 0
+FirstEndsWell =
+    Good first_tree first_program (v.List (1 ∷ 2 ∷ []) ∷ []) (whole_piece (block 1 (1 ∷ 2 ∷ [])) ∷ []) (Leaf none (End (1 ∷ [])))
+    (with_blocks (no_blocks 16) ((1, 1 ∷ 2 ∷ []) ∷ []))
+
+-- the list of `first` in block 1, and another block 2
+abbrev pub ExtraBlockIsNotGood : Type 0
+ExtraBlockIsNotGood =
+    (p : Spec) (t : Tree Piece)
+    → Good p first_program (v.List (7 ∷ 8 ∷ []) ∷ []) (whole_piece (block 1 (7 ∷ 8 ∷ [])) ∷ []) t
+    (with_blocks (no_blocks 16) ((1, 7 ∷ 8 ∷ []) ∷ (2, 0 ∷ []) ∷ [])) → ⊥

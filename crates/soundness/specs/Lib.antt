@@ -1,0 +1,7 @@
+pub mod Start
+pub mod Good
+pub mod Nodes
+pub mod Shape
+pub mod Sound
+pub mod Samples
+pub mod Laws

@@ -1,0 +1,12 @@
+pub mod Safe
+pub mod Bounded
+pub mod Reached
+pub mod Text
+pub mod Weakest
+pub mod Claims
+pub mod Blocks
+pub mod Parts
+pub mod Laws
+pub mod Sample
+pub mod Pair
+pub mod Copy
