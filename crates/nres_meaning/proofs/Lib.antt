@@ -3,5 +3,7 @@ pub mod FlatGrowth
 pub mod Follows
 pub mod Growth
 pub mod Lively
+pub mod OneReading
+pub mod OneTree
 pub mod Shown
 pub mod Steps

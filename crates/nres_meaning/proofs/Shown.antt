@@ -142,6 +142,8 @@ dedup_stays n f =
 pub seen : s.Seen
 unfolding op_named
 seen = record {
+  one_allows = λ n. refl;
+  one_no_more = λ g. (cc);
   first_allows = (0, refl);
   first_no_more = λ g. (cc);
   first_fails = (0, tt);

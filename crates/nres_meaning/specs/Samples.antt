@@ -1,5 +1,5 @@
 -- Small specifications, by which the meaning is seen.
-use Rattle.std.specs.Prelude.{ℕ, ◌-◌, ◌^◌, List, [], ◌∷◌, Some, None, true, codes}
+use Rattle.std.specs.Prelude.{◌≡◌, ℕ, ◌-◌, ◌^◌, List, [], ◌∷◌, Some, None, true, codes}
 use Rattle.target_code.specs.declared.tree.Calc.TheVariants as c
 use Rattle.target_code.specs.declared.tree.Rep.{Rep}
 use Rattle.target_code.specs.declared.tree.Rep.TheVariants as r
@@ -7,9 +7,13 @@ use Rattle.nres_core.specs.Tree as t
 use Rattle.nres_core.specs.Tree.{Exp, Exps, Blk, Steps, Bod, Whole, Word}
 use Rattle.nres_core.specs.declared.place.Named.{Named}
 use Rattle.nres_core.specs.declared.place.Place.{Place}
+use Rattle.nres_core.specs.declared.tree.Spec.{Spec}
+use Rattle.nres_core.specs.declared.tree.With.{With}
 use Rattle.nres_core.specs.declared.value.Value.{Value}
 use Rattle.nres_core.specs.declared.value.Value.TheVariants as v
-use Rattle.nres_core.specs.Samples.{first_tree}
+use Rattle.nres_core.specs.Runs.{Gives}
+use Rattle.nres_core.specs.Samples.{first_text, first_tree}
+use Rattle.nres_core.specs.Texts.{SpecText}
 use Rattle.nres_meaning.specs.Allowed.{AllowedBy, FailsBy, EndsBy, Allows, CanFail, spec_runs}
 
 -- places say nothing here
@@ -44,6 +48,10 @@ program xs b = record { params = xs; body = b; procs = [] }
 -- x <- get xs 0, return x
 abbrev pub first_spec : Whole Word
 first_spec = program (named (codes "xs") ∷ []) (returning (value (codes "x") (word_on (codes "get") (var (codes "xs") ∷ t.Num here 0 ∷ [])) t.No_step) (var (codes "x") ∷ []))
+
+-- return 1
+abbrev pub one_spec : Whole Word
+one_spec = program [] (returning t.No_step (t.Num here 1 ∷ []))
 
 -- return a + 1
 abbrev pub over_spec : Whole Word
@@ -86,6 +94,8 @@ numbers xs = v.List xs ∷ []
 
 -- what these specifications allow, and where they can fail
 pub record Seen : Type 0 where
+  pub one_allows : (n : ℕ) → Gives (spec_runs one_spec [] n) (v.Nat 1 ∷ [])
+  pub one_no_more : ¬ AllowedBy (spec_runs one_spec []) (v.Nat 2 ∷ [])
   pub first_allows : AllowedBy (spec_runs first_spec (numbers (1 ∷ 2 ∷ []))) (v.Nat 1 ∷ [])
   pub first_no_more : ¬ AllowedBy (spec_runs first_spec (numbers (1 ∷ 2 ∷ []))) (v.Nat 2 ∷ [])
   pub first_fails : FailsBy (spec_runs first_spec (numbers []))
@@ -104,3 +114,7 @@ pub record FirstSeen : Type 0 where
   pub allows : Allows first_tree (numbers (1 ∷ 2 ∷ [])) (v.Nat 1 ∷ [])
   pub no_more : ¬ Allows first_tree (numbers (1 ∷ 2 ∷ [])) (v.Nat 2 ∷ [])
   pub can_fail : CanFail first_tree (numbers [])
+
+-- the text `first` has no other tree
+abbrev pub OneTree : Type 0
+OneTree = (p : Spec) (ws : List With) → SpecText first_text p ws → (p ≡ first_tree) × (ws ≡ [])

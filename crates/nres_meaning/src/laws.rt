@@ -42,3 +42,8 @@ pub fn seen()
 pub fn first_seen()
     ensures { samples.FirstSeen }
 {}
+
+/// The text `first` has no tree but its own.
+pub fn first_has_one_tree()
+    ensures { samples.OneTree }
+{}
