@@ -46,3 +46,23 @@ pub fn no_bits()
 pub fn lines_seen()
     ensures { laws.LinesSeen }
 {}
+
+/// What the images that encoding gives look like.
+pub fn images_seen()
+    ensures { laws.ImagesSeen }
+{}
+
+/// The images of numbers, truth values, lists and multisets represent them.
+pub fn images_represent()
+    ensures { laws.ImagesRepresent }
+{}
+
+/// The images of a few sets represent them.
+pub fn sets_encoded()
+    ensures { laws.SetsEncoded }
+{}
+
+/// The images of a few maps represent them.
+pub fn maps_encoded()
+    ensures { laws.MapsEncoded }
+{}

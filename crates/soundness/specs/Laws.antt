@@ -19,7 +19,7 @@ use Rattle.soundness.specs.Good.{Good, kept_pieces}
 use Rattle.soundness.specs.Nodes.{Nodes, End_node, If_node, SpecTree, CodeTree}
 use Rattle.soundness.specs.Samples.{first_flat, first_program, array_get, two_gets, two_flat, two_program, one_by_one, get_or_not, get_node, no_choice, one_load, size_program, gone_heap}
 use Rattle.soundness.specs.Shape.{Shape, any_side}
-use Rattle.soundness.specs.Start.{Start}
+use Rattle.soundness.specs.Start.{Start, Begin, BeginFromOne, names_from}
 
 abbrev pub FirstHasShape : Type 0
 FirstHasShape = Shape (array_get ∷ []) first_flat first_program
@@ -69,3 +69,21 @@ ExtraBlockIsNotGood =
     (p : Spec) (t : Tree Piece)
     → Good p first_program (v.List (7 ∷ 8 ∷ []) ∷ []) (whole_piece (block 1 (7 ∷ 8 ∷ [])) ∷ []) t
     (with_blocks (no_blocks 16) ((1, 7 ∷ 8 ∷ []) ∷ (2, 0 ∷ []) ∷ [])) → ⊥
+
+-- the list 7, 8 in block 1
+abbrev pub FirstBegins : Type 0
+FirstBegins = BeginFromOne first_program (v.List (7 ∷ 8 ∷ []) ∷ []) 16 (start reading (1 ∷ 0 ∷ 2 ∷ [])) reading_heap
+
+-- the same in block 5
+abbrev pub OtherNameBegins : Type 0
+OtherNameBegins =
+    Begin first_program (v.List (7 ∷ 8 ∷ []) ∷ []) 16 (5 ∷ []) (start reading (5 ∷ 0 ∷ 2 ∷ [])) (with_blocks (no_blocks 16) ((5, 7 ∷ 8 ∷ []) ∷ []))
+
+abbrev pub NamesSeen : Type 0
+NamesSeen = names_from 1 ((7 ∷ 8 ∷ []) ∷ [] ∷ (9 ∷ []) ∷ []) ≡ 1 ∷ 4 ∷ 5 ∷ []
+
+-- no image has more used states than full ones
+abbrev pub GoneIsNoBegin : Type 0
+GoneIsNoBegin =
+    (cap : ℕ) (names : List ℕ)
+    → Begin size_program (v.Set (set_of (0 ∷ 16 ∷ [])) ∷ []) cap names (start size_program.procs (5 ∷ 8 ∷ 2 ∷ 3 ∷ [])) gone_heap → ⊥

@@ -51,3 +51,23 @@ pub fn first_ends_well()
 pub fn extra_block_is_not_good()
     ensures { laws.ExtraBlockIsNotGood }
 {}
+
+/// There is a begin of `first` on the list 7, 8, whose block is named 1.
+pub fn first_begins()
+    ensures { laws.FirstBegins }
+{}
+
+/// There is one whose block has another name.
+pub fn other_name_begins()
+    ensures { laws.OtherNameBegins }
+{}
+
+/// What names go up from 1.
+pub fn names_seen()
+    ensures { laws.NamesSeen }
+{}
+
+/// No begin has a hash table one of whose states is marked gone.
+pub fn gone_is_no_begin()
+    ensures { laws.GoneIsNoBegin }
+{}
