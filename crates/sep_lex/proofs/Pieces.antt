@@ -1,5 +1,5 @@
 -- One piece more of a text.
-use Rattle.std.proofs.Common.{◌≡◌, ℕ, ◌+◌, ◌-◌, ◌<◌, ◌≤◌, List, [], ◌∷◌, length, take, drop, ap, ◌∙◌, sym, subst, arith}
+use Rattle.std.proofs.Common.{◌≡◌, ℕ, ◌+◌, ◌-◌, ◌<◌, ◌≤◌, List, [], ◌∷◌, ◌++◌, length, take, drop, ap, ◌∙◌, sym, subst, arith}
 use Rattle.std.proofs.Common.{length-drop, length-take}
 use Rattle.std.proofs.lemmas.List.{drop-drop, take_all, drop_all}
 use Rattle.nres_core.specs.declared.place.Place.{Place}
@@ -8,6 +8,7 @@ use Rattle.nres_core.specs.declared.token.TokenKind.{TokenKind}
 use Rattle.nres_core.specs.declared.token.Piece.TheVariants as piece
 use Rattle.nres_core.specs.Front.{front}
 use Rattle.nres_core.specs.Tokens.{after, Lexes, StopsAt}
+use Rattle.sep_lex.specs.Spans.{AllWithin}
 
 spaced : {at n : ℕ} {p : Place} {ts : List Token} (z : List ℕ) → 0 < length z → front z ≡ piece.Space n
     → Lexes (at + n) (after p (take n z)) (drop n z) ts → Lexes at p z ts
@@ -91,3 +92,8 @@ wrong_stops input at p q h e f = subst (λ x. StopsAt p (drop at input) x) f (st
 
 pub all_read : (input : List ℕ) (at : ℕ) (p : Place) → length input ≤ at → Lexes at p (drop at input) []
 all_read input at p h = subst (λ z. Lexes at p z []) (sym (drop_all at input h)) Lexes.ends
+
+-- one token more within the text
+pub one_more : (text : List ℕ) (ts : List Token) (t : Token) → AllWithin text ts → t.start ≤ t.end → t.end ≤ length text → AllWithin text (ts ++ t ∷ [])
+one_more text [] t h i j = (i, j, tt)
+one_more text (u ∷ us) t h i j = (h.0, h.1, one_more text us t h.2 i j)

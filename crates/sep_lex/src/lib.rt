@@ -7,4 +7,4 @@ mod walk;
 
 pub use nres_core::{Token, TokenKind};
 pub use refusal::LexRefusal;
-pub use walk::{one_reading, tokens};
+pub use walk::{after, one_reading, tokens, tokens_from};

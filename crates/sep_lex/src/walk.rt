@@ -3,14 +3,15 @@
 ghost use Rattle.std.specs.Prelude.{ℕ, List, ◌≡◌, ◌<◌, ◌≤◌, ◌+◌, ◌^◌, length, IfOk};
 ghost use Rattle.nres_core.specs.Tokens as spec;
 ghost use Rattle.nres_core.specs.Tokens.{Lexes, StopsAt, first};
+ghost use Rattle.sep_lex.specs.Spans.{AllWithin, line_start};
 
 use crate::piece::front;
 use crate::refusal::LexRefusal;
 use nres_core::{Piece, Place, Token};
 use std::alloc::Global;
 
-/// The place behind these bytes.
-fn after(place: Place, bytes: &[u8]) -> Place
+/// The place behind these bytes, which begin at a place.
+pub fn after(place: Place, bytes: &[u8]) -> Place
     requires line { place.line + length bytes.now < 2 ^ 64 }
     requires column { place.column + length bytes.now < 2 ^ 64 }
     requires begun { 1 ≤ place.column }
@@ -34,14 +35,16 @@ fn after(place: Place, bytes: &[u8]) -> Place
     Place { line, column }
 }
 
-/// The tokens of a text, in order. It is refused at the first byte at which no token, blank or comment stands, and it is
-/// so exactly where there is one.
-pub fn tokens(alloc: Global, input: &[u8]) -> Result<Vec<Token>, LexRefusal>
-    ensures ok { IfOk result (λ ts. Lexes 0 first input.now ts.items) }
-    ensures at { (p : Place) → result ≡ Err (LexRefusal.At p) → StopsAt first input.now p }
+/// The tokens of a text whose first line has this number, in order, each a part of the text. The text is refused at the
+/// first byte at which no token, blank or comment stands, and it is so exactly where there is one.
+pub fn tokens_from(alloc: Global, input: &[u8], line: u64) -> Result<Vec<Token>, LexRefusal>
+    requires { line + length input.now < 2 ^ 64 }
+    ensures ok { IfOk result (λ ts. Lexes 0 (line_start line) input.now ts.items) }
+    ensures within { IfOk result (λ ts. AllWithin input.now ts.items) }
+    ensures at { (p : Place) → result ≡ Err (LexRefusal.At p) → StopsAt (line_start line) input.now p }
 {
     let mut all = Vec::new(alloc);
-    let mut place = Place { line: 1, column: 1 };
+    let mut place = Place { line, column: 1 };
     let mut at = 0;
     'each: while at < input.len() {
         let rest = &input[at..];
@@ -64,6 +67,16 @@ pub fn tokens(alloc: Global, input: &[u8]) -> Result<Vec<Token>, LexRefusal>
         }
     }
     Ok(all)
+}
+
+/// The tokens of a text, in order, each a part of the text. The text is refused at the first byte at which no token, blank
+/// or comment stands, and it is so exactly where there is one.
+pub fn tokens(alloc: Global, input: &[u8]) -> Result<Vec<Token>, LexRefusal>
+    ensures ok { IfOk result (λ ts. Lexes 0 first input.now ts.items) }
+    ensures within { IfOk result (λ ts. AllWithin input.now ts.items) }
+    ensures at { (p : Place) → result ≡ Err (LexRefusal.At p) → StopsAt first input.now p }
+{
+    tokens_from(alloc, input, 1)
 }
 
 /// A law: a text has one list of tokens, and no place to refuse it at, or it has such a place and no list of tokens.

@@ -1,8 +1,9 @@
 use Rattle.std.proofs.Common.{arith, ◌≡◌, [], subst, append_assoc, append-nil}
 use Rattle.sep_lex.specs.declared.refusal.LexRefusal.TheVariants as refusal
-use Rattle.nres_core.specs.Tokens.{Lexes, first}
+use Rattle.nres_core.specs.Tokens.{Lexes}
+use Rattle.sep_lex.specs.Spans.{line_start}
 use Rattle.sep_lex.proofs.Pieces as pieces
-use Rattle.sep_lex.proofs.walk.tokens.Goals as goal
+use Rattle.sep_lex.proofs.walk.tokens_from.Goals as goal
 
 pub each-preserved-in-Space : goal.each-preserved-in-Space
 each-preserved-in-Space c =
@@ -16,6 +17,7 @@ each-preserved-in-Space c =
       column = omega (arith, c.after-place.ensures.column, f);
       begun = c.after-place.ensures.begun;
       within = pieces.ends_within z c.each.at c.in-Space.n c.each.place c.after-place.result c.each-test.true h.within.1;
+      spans = c.each.invariant.spans;
     }
 
 pub each-preserved : goal.each-preserved
@@ -31,6 +33,8 @@ each-preserved c =
       column = omega (arith, c.after-place-in-Token.ensures.column, f);
       begun = c.after-place-in-Token.ensures.begun;
       within = pieces.ends_within z c.each.at c.in-Token.n c.each.place c.after-place-in-Token.result c.each-test.true h.within.1;
+      spans = rw more (pieces.one_more z c.each.all.items _ c.each.invariant.spans (omega arith)
+          (pieces.ends_within z c.each.at c.in-Token.n c.each.place c.after-place-in-Token.result c.each-test.true h.within.1));
     }
 
 pub returns-in-Wrong-clause-at : goal.returns-in-Wrong-clause-at
@@ -40,4 +44,4 @@ returns-in-Wrong-clause-at c = λ p e.
 pub returns-clause-ok : goal.returns-clause-ok
 returns-clause-ok c =
     let d = c.each.invariant.lexes [] (pieces.all_read c.args.input.now c.each.at c.each.place c.each-test.false) in
-    subst (λ ts. Lexes 0 first c.args.input.now ts) (append-nil c.each.all.items) d
+    subst (λ ts. Lexes 0 (line_start c.args.line) c.args.input.now ts) (append-nil c.each.all.items) d

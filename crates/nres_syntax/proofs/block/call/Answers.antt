@@ -1,0 +1,22 @@
+use Rattle.std.proofs.Common.{rules, arith, ◌≡◌, ◌<◌, ◌≤◌, ◌-◌, ◌+◌, [], ◌∷◌, ◌++◌, length, cond, true, false, ap, ◌∙◌, sym, refl, subst}
+use Rattle.nres_core.specs.declared.tree.Body.TheVariants as bodies
+use Rattle.nres_core.specs.declared.tree.Step.TheVariants as kinds
+use Rattle.nres_syntax.specs.Bodies.{inner, named_to}
+use Rattle.nres_machine.specs.Cursor.{left}
+use Rattle.nres_machine.specs.Machine.{Mode, Reads, pass, leave, body, steps, whole, whole_atom, block_to, results, others, call_body}
+use Rattle.nres_machine.specs.declared.lexeme.Fixed.TheVariants as fixed
+use Rattle.nres_machine.proofs.Going as going
+use Rattle.nres_machine.proofs.Going.{◌then◌, ◌fails◌, exits, passes, took}
+use Rattle.nres_machine.proofs.Exprs as exprs
+use Rattle.nres_machine.proofs.Items as items
+use Rattle.nres_syntax.proofs.Blocks as blocks
+use Rattle.nres_syntax.proofs.block.call.Goals as goal
+
+pub returns-in_err-fun-clause-reads : goal.returns-in_err-fun-clause-reads
+returns-in_err-fun-clause-reads c = exits _ _ _ c.from_residual.ensures.1 (λ n k. c.in_err-fun.ensures.reads n _)
+
+pub returns-in_err-list-clause-reads : goal.returns-in_err-list-clause-reads
+returns-in_err-list-clause-reads c = exits _ _ _ c.from_residual-in_err-list.ensures.1 (λ n k. c.in_ok-fun.ensures.reads _ fails c.in_err-list.ensures.reads n _)
+
+pub returns-clause-reads : goal.returns-clause-reads
+returns-clause-reads c = λ k. c.in_ok-fun.ensures.reads _ then c.in_ok-list.ensures.reads _

@@ -1,0 +1,21 @@
+use Rattle.std.proofs.Common.{rules, arith, ◌≡◌, ◌<◌, ◌≤◌, ◌-◌, ◌+◌, [], ◌∷◌, ◌++◌, length, cond, true, false, ap, ◌∙◌, sym, refl, subst}
+use Rattle.nres_core.specs.Texts.{param as param_made}
+use Rattle.nres_syntax.specs.Bodies.{inner_params, one_shown, slice_or}
+use Rattle.nres_machine.specs.Cursor.{left}
+use Rattle.nres_machine.specs.Machine.{Mode, Reads, pass, when, leave, more_params, more_shown, shown_as, laid, typed, container, param_of, shown, block_to, is_list}
+use Rattle.nres_machine.specs.declared.lexeme.Fixed.TheVariants as fixed
+use Rattle.nres_machine.proofs.Going as going
+use Rattle.nres_machine.proofs.Going.{◌then◌, ◌fails◌, exits, passes, took}
+use Rattle.nres_machine.proofs.Exprs as exprs
+use Rattle.nres_syntax.proofs.Heads as heads
+use Rattle.nres_syntax.proofs.head.params.Goals as goal
+
+pub returns-in_err-pass-clause-reads : goal.returns-in_err-pass-clause-reads
+returns-in_err-pass-clause-reads c = exits _ _ _ c.from_residual.ensures.1 (λ n k. going.passed_not c.in_err-pass.ensures)
+
+pub returns-then-is_fixed-clause-reads : goal.returns-then-is_fixed-clause-reads
+returns-then-is_fixed-clause-reads c = λ k. let n = c.new.ensures in rw n (going.passed c.in_ok-pass.ensures then going.met (took c.peek-next.ensures.next c.take.ensures.rest c.take.ensures.operators) (sym c.is_fixed.ensures.value ∙ c.if-is_fixed.true))
+
+pub returns-clause-reads : goal.returns-clause-reads
+returns-clause-reads c = passes (more_params c.args.slices c.new-2.result) _ _ (λ k. k)
+    (λ k. let n = c.new-2.ensures in rw n (going.passed c.in_ok-pass.ensures then going.not_met (record { next = c.peek-next.ensures.next }) (sym c.is_fixed.ensures.value ∙ c.if-is_fixed.false))) (λ y k. going.stay) c.more_params.ensures.reads

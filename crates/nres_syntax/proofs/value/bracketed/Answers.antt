@@ -1,0 +1,19 @@
+use Rattle.std.proofs.Common.{rules, arith, ℕ, ◌≡◌, ◌<◌, ◌≤◌, ◌-◌, ◌+◌, [], ◌∷◌, ◌++◌, length, cond, true, false, ap, ◌∙◌, sym, refl, subst}
+use Rattle.std.specs.FinMap as maps
+use Rattle.std.specs.FinSet as sets
+use Rattle.nres_core.specs.Bag.{bag_of}
+use Rattle.nres_core.specs.Texts.{put_all}
+use Rattle.nres_core.specs.declared.value.Value.TheVariants as v
+use Rattle.nres_machine.specs.Cursor.{left}
+use Rattle.nres_machine.specs.Machine.{Mode, Reads, pass, when, leave, comma_or, numbers, numbers_read, members, pairs, pair_of, braces, value}
+use Rattle.nres_machine.specs.declared.lexeme.Fixed.TheVariants as fixed
+use Rattle.nres_machine.proofs.Going as going
+use Rattle.nres_machine.proofs.Going.{◌then◌, ◌fails◌, exits, passes, took}
+use Rattle.nres_syntax.proofs.Values as values
+use Rattle.nres_syntax.proofs.value.bracketed.Goals as goal
+
+pub returns-in_err-found-clause-reads : goal.returns-in_err-found-clause-reads
+returns-in_err-found-clause-reads c = exits _ _ _ c.from_residual.ensures.1 (λ n k. c.in_err-found.ensures.reads n (λ ns. k (v.List ns)))
+
+pub returns-clause-reads : goal.returns-clause-reads
+returns-clause-reads c = λ k. c.in_ok-found.ensures.reads (λ ns. k (v.List ns))
