@@ -5,6 +5,8 @@ pub mod FlatTyped
 pub mod Flatten
 pub mod Front
 pub mod Grammar
+pub mod Identify
+pub mod IdentifySamples
 pub mod Mirror
 pub mod Mirrors
 pub mod Ops

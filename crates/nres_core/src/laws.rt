@@ -1,6 +1,7 @@
 //! Laws of specifications. Their functions do nothing; what they ensure is the law.
 
 ghost use Rattle.nres_core.specs.FlatSamples as flat_samples;
+ghost use Rattle.nres_core.specs.IdentifySamples as identify_samples;
 ghost use Rattle.nres_core.specs.Mirrors as mirrors;
 ghost use Rattle.nres_core.specs.Samples as samples;
 ghost use Rattle.nres_core.specs.TypeSamples as type_samples;
@@ -38,4 +39,9 @@ pub fn flat_seen()
 /// The typing of the text `first`.
 pub fn first_typed()
     ensures { type_samples.FirstTyped }
+{}
+
+/// The flat tree of the text `first`.
+pub fn first_is_flat()
+    ensures { identify_samples.FirstIsFlat }
 {}

@@ -1,12 +1,12 @@
 -- Laws of starts, ends and shapes, as facts.
-use Rattle.std.specs.Prelude.{◌≡◌, ℕ, true, List, [], ◌∷◌, ◌++◌}
+use Rattle.std.specs.Prelude.{◌≡◌, ℕ, true, List, [], ◌∷◌, ◌++◌, Some, codes}
 use Rattle.nres_core.specs.Samples.{first_tree}
 use Rattle.nres_core.specs.declared.tree.Spec.{Spec}
 use Rattle.nres_core.specs.declared.value.Value.{Value}
 use Rattle.nres_core.specs.declared.value.Value.TheVariants as v
 use Rattle.target_code.specs.declared.tree.Proc.{Proc}
 use Rattle.target_code.specs.declared.tree.Program.{Program}
-use Rattle.target_meaning.specs.Leaf.{End}
+use Rattle.target_meaning.specs.Leaf.{End, find}
 use Rattle.target_meaning.specs.Machine.{Never, Freed, Heap, Tree, Leaf, no_blocks, with_blocks}
 use Rattle.target_meaning.specs.Piece.{Nil, Piece, none}
 use Rattle.target_meaning.specs.Held.{IsHeld}
@@ -19,6 +19,8 @@ use Rattle.soundness.specs.Good.{Good, kept_pieces}
 use Rattle.soundness.specs.Nodes.{Nodes, End_node, If_node, SpecTree, CodeTree}
 use Rattle.soundness.specs.Samples.{first_flat, first_program, array_get, two_gets, two_flat, two_program, one_by_one, get_or_not, get_node, no_choice, one_load, size_program, gone_heap}
 use Rattle.soundness.specs.Shape.{Shape, any_side}
+use Rattle.soundness.specs.SafeEnds.{IsSafe, IsSafeFrom}
+use Rattle.soundness.specs.Sound.{Sound}
 use Rattle.soundness.specs.Start.{Start, Begin, BeginFromOne, names_from}
 
 abbrev pub FirstHasShape : Type 0
@@ -87,3 +89,11 @@ abbrev pub GoneIsNoBegin : Type 0
 GoneIsNoBegin =
     (cap : ℕ) (names : List ℕ)
     → Begin size_program (v.Set (set_of (0 ∷ 16 ∷ [])) ∷ []) cap names (start size_program.procs (5 ∷ 8 ∷ 2 ∷ 3 ∷ [])) gone_heap → ⊥
+
+-- a program that is safe with a good end is sound
+abbrev pub SafeIsSound : Type 0
+SafeIsSound = (p : Spec) (T : Program) → IsSafe p T → Sound p T
+
+-- a program that is safe so from the beginning of its `main` is safe so from each start
+abbrev pub SafeFromMain : Type 0
+SafeFromMain = (p : Spec) (T : Program) (main : Proc) → find T.procs (codes "main") ≡ Some main → IsSafeFrom main p T → IsSafe p T

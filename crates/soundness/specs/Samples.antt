@@ -2,15 +2,10 @@
 use Rattle.std.specs.Prelude.{ℕ, true, List, [], ◌∷◌, None, codes}
 use Rattle.nres_core.specs.FlatTree as f
 use Rattle.nres_core.specs.FlatTree.{Binds, Ending, FlatWhole}
-use Rattle.nres_core.specs.Flatten.{entered, flats}
+use Rattle.nres_core.specs.IdentifySamples as flat_samples
 use Rattle.nres_core.specs.Samples.{at}
-use Rattle.nres_core.specs.Tree as t
-use Rattle.nres_core.specs.Tree.{Blk}
 use Rattle.nres_core.specs.declared.flat.Arg.TheVariants as a
-use Rattle.nres_core.specs.declared.op.Op.{Op}
 use Rattle.nres_core.specs.declared.op.Op.TheVariants as o
-use Rattle.nres_core.specs.declared.place.Named.{Named}
-use Rattle.nres_core.specs.declared.place.Place.{Place}
 use Rattle.target_code.specs.declared.tree.Branch.{Branch}
 use Rattle.target_code.specs.declared.tree.Instr.{Instr}
 use Rattle.target_code.specs.declared.tree.Instr.TheVariants.{Const, Calc, Call, Load, If, Par}
@@ -23,27 +18,9 @@ use Rattle.target_meaning.specs.Samples.{reading, proc_of}
 use Rattle.relations.specs.Samples.{gone_words}
 use Rattle.soundness.specs.Nodes.{Nodes, Op_node, End_node}
 
-abbrev named : List ℕ → Place → Named
-named x p = record { name = x; place = p }
-
--- x <- get xs 0, return x
-abbrev pub first_block : Blk Op
-first_block =
-    t.Returns
-    (t.Bind (named (codes "x") (at 2 3) ∷ []) (at 2 3)
-    (t.Value (t.Apply (at 2 8) o.Get (t.Also (t.Var (named (codes "xs") (at 2 12))) (t.Also (t.Num (at 2 15) 0) t.None_left)) None))
-    t.No_step)
-    (at 3 3) (t.Also (t.Var (named (codes "x") (at 3 10))) t.None_left)
-
--- the flat tree of `spec first (xs: list as array kept) : nat` with that block
+-- the flat tree of the text `first`
 abbrev pub first_flat : FlatWhole
-first_flat = record {
-  params = record { name = codes "xs"; rep = rep.Array; kept = true } ∷ [];
-  shown = rep.Word ∷ [];
-  body = flats (at 3 3) (entered (λ x. 0) (named (codes "xs") (at 1 13) ∷ []) first_block 0);
-  names = codes "xs" ∷ codes "x" ∷ [];
-  procs = [];
-}
+first_flat = flat_samples.first_flat
 
 -- its program: `main` calls `array_get` with a constant
 abbrev pub first_program : Program

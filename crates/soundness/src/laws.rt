@@ -71,3 +71,10 @@ pub fn names_seen()
 pub fn gone_is_no_begin()
     ensures { laws.GoneIsNoBegin }
 {}
+
+/// A program that from every start is safe for every number of steps, with an end that is good by what the root holds, is
+/// sound; and it is so from every start where it is so from the beginning of `main`, on what the inputs hold.
+pub fn safe_is_sound()
+    ensures sound { laws.SafeIsSound }
+    ensures from_main { laws.SafeFromMain }
+{}

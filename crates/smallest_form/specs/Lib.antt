@@ -1,0 +1,3 @@
+pub mod Smallest
+pub mod Read
+pub mod Programs
