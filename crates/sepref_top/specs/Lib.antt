@@ -1,4 +1,4 @@
 pub mod Outcome
-pub mod Refusals
 pub mod Statuses
+pub mod Synthesis
 pub mod Words

@@ -1,23 +1,48 @@
 -- The numbers and lines of statuses.
-use Rattle.std.specs.Prelude.{ℕ, List, [], codes, ◌++◌, ◌∷◌}
+use Rattle.std.specs.Prelude.{ℕ, List, [], codes, decimal, ◌++◌, ◌∷◌}
+use Rattle.nres_core.specs.declared.place.Place.{Place}
 use Rattle.sepref_top.specs.declared.status.Status.{Status}
 use Rattle.sepref_top.specs.declared.status.Status.TheVariants as status
 
 abbrev pub code_of : Status → ℕ
 code_of status.Done = 0
 code_of status.Usage = 1
+code_of (status.Syntax p) = 2
+code_of (status.TooDeep p) = 2
 code_of status.TooLong = 11
 code_of status.ReadFault = 20
 code_of status.WriteFault = 21
 code_of status.Memory = 30
 code_of status.NotYet = 40
 
+-- words, a line and a column
+abbrev pub placed : List ℕ → Place → List ℕ
+placed words p = words ++ (decimal p.line ++ (codes " " ++ (decimal p.column ++ (10 ∷ []))))
+
 -- a line and its line feed
 abbrev pub line_of : Status → List ℕ
 line_of status.Done = []
 line_of status.Usage = codes "! usage" ++ (10 ∷ [])
+line_of (status.Syntax p) = placed (codes "! syntax ") p
+line_of (status.TooDeep p) = placed (codes "! too deep ") p
 line_of status.TooLong = codes "! too long" ++ (10 ∷ [])
 line_of status.ReadFault = codes "! read fault" ++ (10 ∷ [])
 line_of status.WriteFault = []
 line_of status.Memory = []
 line_of status.NotYet = codes "! not yet" ++ (10 ∷ [])
+
+-- the line is the same whatever the input
+abbrev pub HasFixedLine : Status → Type 0
+HasFixedLine status.Done = ⊥
+HasFixedLine (status.Syntax p) = ⊥
+HasFixedLine (status.TooDeep p) = ⊥
+HasFixedLine status.WriteFault = ⊥
+HasFixedLine status.Memory = ⊥
+HasFixedLine s = Unit {0}
+
+-- the output or a line that tells a place of the input
+abbrev pub HasOutput : Status → Type 0
+HasOutput status.Done = Unit {0}
+HasOutput (status.Syntax p) = Unit {0}
+HasOutput (status.TooDeep p) = Unit {0}
+HasOutput s = ⊥

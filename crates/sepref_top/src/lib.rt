@@ -1,13 +1,11 @@
 //! The commands: from words and the bytes of a source to the bytes of a sink and a status.
 #![tactic(auto)]
 
-mod reader;
 mod status;
+mod synthesis;
 #[cfg(test)]
 mod tests;
 mod top;
-mod translation;
-mod unserved;
 mod words;
 
 pub use status::Status;

@@ -2,6 +2,8 @@
 
 ghost use Rattle.std.specs.Prelude.{◌≡◌};
 
+use nres_core::Place;
+
 /// How a run of the program ended. Each status but `Done`, `WriteFault` and `Memory` has written its line.
 #[derive(Clone, Copy, PartialEq, Eq, Debug)]
 pub enum Status {
@@ -9,6 +11,10 @@ pub enum Status {
     Done,
     /// The words are no command line.
     Usage,
+    /// The input is no specification: this is the first place at which none can go on.
+    Syntax(Place),
+    /// The same, where a limit alone is at fault.
+    TooDeep(Place),
     /// The source gave more than 1,048,576 bytes.
     TooLong,
     /// A read failed.
@@ -22,7 +28,7 @@ pub enum Status {
 }
 
 impl Status {
-    ghost use Rattle.sepref_top.specs.Statuses.{code_of, line_of};
+    ghost use Rattle.sepref_top.specs.Statuses.{code_of, line_of, HasFixedLine};
 
     /// The number with which the program ends.
     pub fn code(self) -> u8
@@ -31,6 +37,7 @@ impl Status {
         match self {
             Status::Done => 0,
             Status::Usage => 1,
+            Status::Syntax(_) | Status::TooDeep(_) => 2,
             Status::TooLong => 11,
             Status::ReadFault => 20,
             Status::WriteFault => 21,
@@ -39,16 +46,16 @@ impl Status {
         }
     }
 
-    /// The line that tells it, with its line feed; nothing where no line is written.
-    pub(crate) fn line(self) -> &'static [u8]
-        ensures { result.now ≡ line_of self }
+    /// The line that tells it, with its line feed, where the line says nothing of the input; else nothing.
+    pub(crate) fn fixed_line(self) -> &'static [u8]
+        ensures { HasFixedLine self → result.now ≡ line_of self }
     {
         match self {
             Status::Usage => b"! usage\n",
             Status::TooLong => b"! too long\n",
             Status::ReadFault => b"! read fault\n",
             Status::NotYet => b"! not yet\n",
-            Status::Done | Status::WriteFault | Status::Memory => b"",
+            _ => b"",
         }
     }
 }

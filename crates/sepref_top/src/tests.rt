@@ -42,14 +42,16 @@ fn the_form_is_served_and_nothing_else(rt: HostRuntime) -> Result<(), Fail> {
         (FIRST, (0, FIRST_PROGRAM)),
         (ONE, (0, ONE_PROGRAM)),
         ("spec one():nat return 1 end", (0, ONE_PROGRAM)),
-        ("", not_yet),
-        ("spec one () : nat\n  return 1\nend\n# one\n", not_yet),
-        ("spec one () : nat\n\treturn 1\nend\n", not_yet),
-        ("spec one () : nat\r\n  return 1\nend\n", not_yet),
-        ("spec one () : nat\n  return (1)\nend\n", not_yet),
+        (
+            "# one\nspec one () : nat\r\n\treturn (1)\nend\n",
+            (0, ONE_PROGRAM),
+        ),
+        (
+            "spec one () : nat\n  return 1\nend\nwith x = [1, 2]\n",
+            (0, ONE_PROGRAM),
+        ),
         ("spec one () : nat\n  return x\nend\n", not_yet),
-        ("spec one () : nat\n  return end\nend\n", not_yet),
-        ("spec one () : nat\n  return 1\nend\nend\n", not_yet),
+        ("spec one () : nat\n  return 1 + 1\nend\n", not_yet),
         (
             "spec first (xs: list as array) : nat\n  x <- get xs 0\n  return x\nend\n",
             not_yet,
@@ -58,23 +60,48 @@ fn the_form_is_served_and_nothing_else(rt: HostRuntime) -> Result<(), Fail> {
             "spec first (xs: list as array kept) : nat\n  x <- get ys 0\n  return x\nend\n",
             not_yet,
         ),
-        (
-            "spec first (xs: list as array kept) : nat\n  x <- get xs 0\n  return xs\nend\n",
-            not_yet,
-        ),
-        (
-            "spec first (xs: list as array kept) : nat\n  x <- get xs 0\n",
-            not_yet,
-        ),
-        (
-            "spec a () : nat\n  return 18446744073709551616\nend\n",
-            not_yet,
-        ),
     ] {
         let (code, written) = run(rt.alloc(), &["synth"], input.as_bytes(), NEVER, NEVER)?;
         assert_eq!(rt; code, status, "{input}");
         assert!(rt; written.as_slice() == output.as_bytes(), "{input}");
     }
+    Ok(())
+}
+
+#[test]
+fn what_is_no_specification_is_told_at_its_place(rt: HostRuntime) -> Result<(), Fail> {
+    for (input, output) in [
+        ("", "! syntax 1 1\n"),
+        ("spec one () : nat\n  return end\nend\n", "! syntax 2 10\n"),
+        (
+            "spec one () : nat\n  return 1\nend\nend\n",
+            "! syntax 4 1\n",
+        ),
+        (
+            "spec first (xs: list as array kept) : nat\n  x <- get xs 0\n",
+            "! syntax 3 1\n",
+        ),
+        (
+            "spec a () : nat\n  return 18446744073709551616\nend\n",
+            "! syntax 2 10\n",
+        ),
+        (
+            "spec a () : nat\n  return 1 < 2 < 3\nend\n",
+            "! syntax 2 16\n",
+        ),
+    ] {
+        let (code, written) = run(rt.alloc(), &["synth"], input.as_bytes(), NEVER, NEVER)?;
+        assert!(rt;
+            code == 2 && written.as_slice() == output.as_bytes(),
+            "{input}"
+        );
+    }
+    let mut deep = String::from_str(rt.alloc(), "spec a () : nat return ")?;
+    for _ in 0..64 {
+        deep.push('(')?;
+    }
+    let (code, written) = run(rt.alloc(), &["synth"], deep.as_bytes(), NEVER, NEVER)?;
+    assert!(rt; code == 2 && written.as_slice() == b"! too deep 1 87\n".as_slice());
     Ok(())
 }
 
@@ -104,7 +131,7 @@ fn literals_and_names_go_to_their_limits(rt: HostRuntime) -> Result<(), Fail> {
     for _ in 0..64 {
         text.push('n')?;
     }
-    for (more, status) in [("", 0), ("n", 40)] {
+    for (more, status) in [("", 0), ("n", 2)] {
         let text = format!(in rt.alloc(); "{text}{more} () : nat return 1 end")?;
         let (code, _) = run(rt.alloc(), &["synth"], text.as_bytes(), NEVER, NEVER)?;
         assert_eq!(rt; code, status, "64 bytes and {more}");

@@ -1,34 +1,79 @@
 //! The call that does all that waits for nobody.
 
-ghost use Rattle.std.specs.Prelude.{ℕ, List, ◌≡◌, ◌≢◌, ◌<◌, ◌≤◌, Some, None, IfErr, OnOk};
+ghost use Rattle.std.specs.Prelude.{ℕ, List, ◌≡◌, ◌≢◌, ◌<◌, ◌≤◌, ◌⊎◌, Some, None, Ok, Err, IfOk, IfErr, OnOk};
 ghost use Rattle.std.specs.Io.KnownBytes.{Appends, IsAtEnd};
 ghost use Rattle.sep_io.specs.Faults.{Rose, Gave};
 ghost use Rattle.sepref_top.specs.Words.{asked};
 ghost use Rattle.sepref_top.specs.Outcome.{longest, AnswersUnlessLost, TellsLength, Wrote};
+ghost use Rattle.sepref_top.specs.Statuses.{HasFixedLine, HasOutput, line_of};
+ghost use Rattle.sepref_top.specs.Synthesis.{GaveText, IsOther, Synthesis, Synthesized};
+ghost use Rattle.nres_core.specs.declared.place.Place.{Place as PlaceOf};
+ghost use Rattle.nres_syntax.specs.Refusals.{RefusedAt, RefusedDeep};
 
-use crate::reader::read;
 use crate::status::Status;
-use crate::translation::translate;
-use crate::unserved::Unserved;
+use crate::synthesis::{Unserved, place_line, synth};
 use crate::words::{Command, read_words};
 use sep_io::{ReadEnd, Sink, Source, read_all, write_all};
 use std::alloc::Global;
-use target_text::print_program;
 
 /// The longest input, in bytes.
 const LONGEST: u64 = 1_048_576;
 
-/// The text of the program of a specification.
-fn synth(alloc: Global, text: &[u8]) -> Result<Vec<u8>, Unserved> {
-    let spec = read(alloc, text)?;
-    let program = translate(alloc, &spec)?;
-    Ok(print_program(alloc, &program)?)
+/// What is to be written, and the status that it stands for.
+#[derive(Drop)]
+struct Output {
+    text: Vec<u8>,
+    status: Status,
+}
+
+/// The program of a text, or the line that tells where the text is none.
+fn output_of(alloc: Global, text: &[u8]) -> Result<Output, Status>
+    ensures status { IfOk result (λ o. HasOutput o.status) }
+    ensures refused { IfErr result (λ s. (s ≡ Status.Memory) ⊎ (s ≡ Status.NotYet)) }
+    ensures done { IfOk result (λ o. o.status ≡ Status.Done → Synthesis text.now o.text.items) }
+    ensures line { IfOk result (λ o. o.status ≢ Status.Done → o.text.items ≡ line_of o.status) }
+    ensures syntax { IfOk result (λ o. (q : PlaceOf) → o.status ≡ Status.Syntax q → RefusedAt text.now q) }
+    ensures too_deep { IfOk result (λ o. (q : PlaceOf) → o.status ≡ Status.TooDeep q → RefusedDeep text.now q) }
+    ensures other { result ≡ Err Status.NotYet → IsOther text.now }
+{
+    let (status, line) = match synth(alloc, text) {
+        Ok(text) => {
+            return Ok(Output {
+                text,
+                status: Status::Done,
+            });
+        }
+        Err(Unserved::OtherForm) => return Err(Status::NotYet),
+        Err(Unserved::Memory) => return Err(Status::Memory),
+        Err(Unserved::Syntax(place)) => (
+            Status::Syntax(place),
+            place_line(alloc, b"! syntax ", place),
+        ),
+        Err(Unserved::TooDeep(place)) => (
+            Status::TooDeep(place),
+            place_line(alloc, b"! too deep ", place),
+        ),
+    };
+    match line {
+        Ok(text) => Ok(Output { text, status }),
+        Err(_) => Err(Status::Memory),
+    }
 }
 
 /// What is to be written, or the status that refuses it.
-fn answer<S: Source>(alloc: Global, words: &[String], source: &mut S) -> Result<Vec<u8>, Status>
-    ensures done { OnOk result (asked words.now ≡ Some Command.Synth) }
-    ensures refused { IfErr result (λ s. (s ≢ Status.Done) × (s ≢ Status.WriteFault)) }
+fn answer<S: Source>(alloc: Global, words: &[String], source: &mut S) -> Result<Output, Status>
+    ensures asked { OnOk result (asked words.now ≡ Some Command.Synth) }
+    ensures status { IfOk result (λ o. HasOutput o.status) }
+    ensures refused { IfErr result (λ s. (s ≡ Status.Memory) ⊎ HasFixedLine s) }
+    ensures done { IfOk result (λ o. o.status ≡ Status.Done
+        → GaveText (λ text. Synthesis text o.text.items) (S.remaining source.old) (S.remaining source.new)) }
+    ensures line { IfOk result (λ o. o.status ≢ Status.Done → o.text.items ≡ line_of o.status) }
+    ensures syntax { IfOk result (λ o. (q : PlaceOf) → o.status ≡ Status.Syntax q
+        → GaveText (λ text. RefusedAt text q) (S.remaining source.old) (S.remaining source.new)) }
+    ensures too_deep { IfOk result (λ o. (q : PlaceOf) → o.status ≡ Status.TooDeep q
+        → GaveText (λ text. RefusedDeep text q) (S.remaining source.old) (S.remaining source.new)) }
+    ensures other { result ≡ Err Status.NotYet → asked words.now ≡ Some Command.Synth
+        → GaveText IsOther (S.remaining source.old) (S.remaining source.new) }
     ensures usage { IfErr result (λ s. s ≡ Status.Usage → asked words.now ≡ None) }
     ensures no_command { asked words.now ≡ None → result ≡ Err Status.Usage }
     ensures not_yet { IfErr result (λ s. s ≡ Status.NotYet → asked words.now ≢ None) }
@@ -49,11 +94,7 @@ fn answer<S: Source>(alloc: Global, words: &[String], source: &mut S) -> Result<
         Err(ReadEnd::Memory) => return Err(Status::Memory),
     };
     match command {
-        Command::Synth => match synth(alloc, text.as_slice()) {
-            Ok(program) => Ok(program),
-            Err(Unserved::OtherForm) => Err(Status::NotYet),
-            Err(Unserved::Memory) => Err(Status::Memory),
-        },
+        Command::Synth => output_of(alloc, text.as_slice()),
         Command::Check | Command::Eval | Command::Run | Command::Exec => Err(Status::NotYet),
     }
 }
@@ -97,6 +138,19 @@ pub fn calm_main<S: Source, K: Sink>(
     ensures done { result ≡ Status.Done
         → (asked words.now ≡ Some Command.Synth) × IsAtEnd (S.remaining source.new) }
 
+    // The headline: the bytes that were read are a specification, and the bytes that were written are the text of a formed
+    // program of its shape, which is sound for it.
+    ensures sound { result ≡ Status.Done
+        → Synthesized (S.remaining source.old) (S.remaining source.new) (K.contents sink.old) (K.contents sink.new) }
+    // No specification begins with what was read, up to and with the token at this place.
+    ensures syntax { (q : PlaceOf) → result ≡ Status.Syntax q
+        → GaveText (λ text. RefusedAt text q) (S.remaining source.old) (S.remaining source.new) }
+    ensures too_deep { (q : PlaceOf) → result ≡ Status.TooDeep q
+        → GaveText (λ text. RefusedDeep text q) (S.remaining source.old) (S.remaining source.new) }
+    // A specification that was read and is not served is outside the form.
+    ensures other { result ≡ Status.NotYet → asked words.now ≡ Some Command.Synth
+        → GaveText IsOther (S.remaining source.old) (S.remaining source.new) }
+
     // The output or the line was written whole, or after a failed write a front of it; at `Memory` nothing was written.
     ensures wrote { Wrote result (K.contents sink.old) (K.contents sink.new) }
     ensures unwritten { result ≡ Status.Memory → sink.new ≡ sink.old }
@@ -104,8 +158,8 @@ pub fn calm_main<S: Source, K: Sink>(
     ensures write_count { K.faults sink.old ≤ K.faults sink.new }
 {
     match answer(alloc, words, source) {
-        Ok(output) => write_output(sink, output.as_slice(), Status::Done),
+        Ok(output) => write_output(sink, output.text.as_slice(), output.status),
         Err(Status::Memory) => Status::Memory,
-        Err(status) => write_output(sink, status.line(), status),
+        Err(status) => write_output(sink, status.fixed_line(), status),
     }
 }
