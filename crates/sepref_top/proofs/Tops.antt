@@ -1,5 +1,5 @@
 -- What the answer and the write of it say together.
-use Rattle.std.proofs.Common.{◌≡◌, ◌≢◌, ◌⊎◌, inl, inr, ◌∙◌, sym}
+use Rattle.std.proofs.Common.{◌≡◌, ◌≢◌, inl, inr, ◌∙◌, sym}
 use Rattle.sepref_top.specs.Outcome.{AnswersUnlessLost}
 use Rattle.sepref_top.specs.declared.status.Status.{Status}
 use Rattle.sepref_top.specs.declared.status.Status.TheVariants as status

@@ -46,3 +46,16 @@ HasOutput status.Done = Unit {0}
 HasOutput (status.Syntax p) = Unit {0}
 HasOutput (status.TooDeep p) = Unit {0}
 HasOutput s = ⊥
+
+-- there was no memory, or a read or a write failed
+abbrev pub HasFailed : Status → Type 0
+HasFailed status.Memory = Unit {0}
+HasFailed status.ReadFault = Unit {0}
+HasFailed status.WriteFault = Unit {0}
+HasFailed s = ⊥
+
+-- it tells at which place the input is no specification
+abbrev pub TellsPlace : Status → Type 0
+TellsPlace (status.Syntax p) = Unit {0}
+TellsPlace (status.TooDeep p) = Unit {0}
+TellsPlace s = ⊥

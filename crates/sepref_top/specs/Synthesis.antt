@@ -1,5 +1,5 @@
 -- What it means that a program was printed for a specification, and why none was.
-use Rattle.std.specs.Prelude.{◌≡◌, ℕ, Bool, true, List, [], ◌∷◌, Option}
+use Rattle.std.specs.Prelude.{◌≡◌, ◌⊎◌, ℕ, Bool, List, [], ◌∷◌, Option}
 use Rattle.std.specs.List.{list_all}
 use Rattle.std.specs.Io.KnownBytes.{Appends, Consumes}
 use Rattle.target_code.specs.Formed.{Formed}
@@ -9,11 +9,12 @@ use Rattle.nres_core.specs.FlatTree.{FlatWhole}
 use Rattle.nres_core.specs.Identify.{IsFlatOf}
 use Rattle.nres_core.specs.Texts.{SpecText}
 use Rattle.nres_core.specs.Typed.{is_free_name}
-use Rattle.nres_core.specs.declared.place.Place.{Place}
 use Rattle.nres_core.specs.declared.tree.Param.{Param}
 use Rattle.nres_core.specs.declared.tree.Spec.{Spec}
 use Rattle.nres_core.specs.declared.tree.With.{With}
-use Rattle.nres_syntax.specs.Refusals.{RefusedAt, RefusedDeep}
+use Rattle.sepref_top.specs.Statuses.{HasFailed, TellsPlace}
+use Rattle.sepref_top.specs.declared.status.Status.{Status}
+use Rattle.sepref_top.specs.declared.status.Status.TheVariants as status
 use Rattle.smallest_form.specs.Smallest.{IsSmallest}
 use Rattle.soundness.specs.Samples.{array_get}
 use Rattle.soundness.specs.Shape.{Shape}
@@ -41,16 +42,28 @@ pub record Synthesis (text output : List ℕ) : Type 0 where
 abbrev pub have_names : List Param → Bool
 have_names xs = list_all (λ x. is_free_name x.name) xs
 
--- the specification is not served
-abbrev pub IsUnserved : Spec → Type 0
-IsUnserved p = IsSmallest p → have_names p.params ≡ true → ⊥
+-- the text is that of a specification that is served, of one that is not, and of none
+pub record IsServed (text : List ℕ) : Type 0 where
+  pub spec : Spec
+  pub withs : List With
+  pub reads : SpecText text spec withs
+  pub small : IsSmallest spec
 
--- the text is that of a specification that is not served
 pub record IsOther (text : List ℕ) : Type 0 where
   pub spec : Spec
   pub withs : List With
   pub reads : SpecText text spec withs
-  pub not_served : IsUnserved spec
+  pub not_small : ¬ IsSmallest spec
+
+abbrev pub IsNone : List ℕ → Type 0
+IsNone text = (p : Spec) (ws : List With) → ¬ SpecText text p ws
+
+-- A text is told by a status: a program comes for what is served, `NotYet` for what is not, a place for what is no
+-- specification, unless there was no memory, or a read or a write failed.
+pub record Told (text : List ℕ) (s : Status) : Type 0 where
+  pub served : IsServed text → (s ≡ status.Done) ⊎ HasFailed s
+  pub other : IsOther text → (s ≡ status.NotYet) ⊎ HasFailed s
+  pub none : IsNone text → TellsPlace s ⊎ HasFailed s
 
 -- ---- of what a source gave, and what went to a sink
 

@@ -1,19 +1,17 @@
 //! The program of a specification, as text.
 
-ghost use Rattle.std.specs.Prelude.{ℕ, List, ◌≡◌, ◌++◌, IfOk, IfSome, OnOk, decimal, true, Ok, Err, None};
-ghost use Rattle.nres_core.specs.Typed as typed;
+ghost use Rattle.std.specs.Prelude.{ℕ, List, ◌≡◌, ◌⊎◌, ◌++◌, IfOk, IfErr, IfSome, OnOk, decimal, true, Ok, Err, None};
 ghost use Rattle.nres_core.specs.declared.place.Place.{Place as PlaceOf};
 ghost use Rattle.nres_syntax.specs.Refusals.{RefusedAt, RefusedDeep};
 ghost use Rattle.sepref_top.specs.Statuses as statuses;
-ghost use Rattle.sepref_top.specs.Synthesis as spec;
-ghost use Rattle.sepref_top.specs.Synthesis.{IsOther, IsUnserved, Printed, Synthesis};
+ghost use Rattle.sepref_top.specs.Synthesis.{IsOther, IsServed, Printed, Synthesis, have_names};
+ghost use Rattle.smallest_form.specs.Smallest.{IsSmallest};
 
 use itoa::Buffer;
-use nres_core::{Param, Place, Spec};
+use nres_core::{Place, Spec};
 use nres_syntax::{SyntaxRefusal, read_spec};
 use smallest_form::translate;
 use std::alloc::{AllocError, Global};
-use target_code::{Name, NameRefusal, is_reserved};
 use target_text::print_program;
 
 /// Why a text made no program.
@@ -29,37 +27,12 @@ pub(crate) enum Unserved {
     Memory,
 }
 
-/// Whether a name is one, and not reserved.
-fn is_free(alloc: Global, name: &Name) -> Result<bool, AllocError>
-    ensures { IfOk result (λ b. b ≡ typed.is_free_name name.now) }
-{
-    match Name::new(alloc, name.bytes()) {
-        Ok(_) => Ok(!is_reserved(name.bytes())),
-        Err(NameRefusal::NotAName) => Ok(false),
-        Err(NameRefusal::Memory) => Err(AllocError),
-    }
-}
-
-/// Whether the names of parameters are names, and not reserved.
-fn have_names(alloc: Global, params: &[Param]) -> Result<bool, AllocError>
-    ensures { IfOk result (λ b. b ≡ spec.have_names params.now) }
-{
-    for param in params {
-        if !is_free(alloc, &param.name)? {
-            return Ok(false);
-        }
-    }
-    Ok(true)
-}
-
 /// The text of the program of a specification; none where it is not served.
 fn printed(alloc: Global, spec: &Spec) -> Result<Option<Vec<u8>>, AllocError>
+    requires { have_names spec.now.params ≡ true }
     ensures some { IfOk result (λ found. IfSome found (λ output. Printed spec.now output.items)) }
-    ensures none { result ≡ Ok None → IsUnserved spec.now }
+    ensures none { result ≡ Ok None → ¬ IsSmallest spec.now }
 {
-    if !have_names(alloc, spec.params.as_slice())? {
-        return Ok(None);
-    }
     match translate(alloc, spec)? {
         None => Ok(None),
         Some(program) => Ok(Some(print_program(alloc, &program)?)),
@@ -72,6 +45,8 @@ pub(crate) fn synth(alloc: Global, text: &[u8]) -> Result<Vec<u8>, Unserved>
     ensures syntax { (q : PlaceOf) → result ≡ Err (Unserved.Syntax q) → RefusedAt text.now q }
     ensures too_deep { (q : PlaceOf) → result ≡ Err (Unserved.TooDeep q) → RefusedDeep text.now q }
     ensures other { result ≡ Err Unserved.OtherForm → IsOther text.now }
+    ensures served { IsServed text.now → IfErr result (λ e. e ≡ Unserved.Memory) }
+    ensures outside { IsOther text.now → (result ≡ Err Unserved.OtherForm) ⊎ (result ≡ Err Unserved.Memory) }
 {
     let found = match read_spec(alloc, text) {
         Ok(found) => found,

@@ -1,12 +1,12 @@
 //! The call that does all that waits for nobody.
 
-ghost use Rattle.std.specs.Prelude.{ℕ, List, ◌≡◌, ◌≢◌, ◌<◌, ◌≤◌, ◌⊎◌, Some, None, Ok, Err, IfOk, IfErr, OnOk};
+ghost use Rattle.std.specs.Prelude.{ℕ, List, length, ◌≡◌, ◌≢◌, ◌<◌, ◌≤◌, ◌⊎◌, Some, None, Ok, Err, IfOk, IfErr, OnOk};
 ghost use Rattle.std.specs.Io.KnownBytes.{Appends, IsAtEnd};
 ghost use Rattle.sep_io.specs.Faults.{Rose, Gave};
 ghost use Rattle.sepref_top.specs.Words.{asked};
 ghost use Rattle.sepref_top.specs.Outcome.{longest, AnswersUnlessLost, TellsLength, Wrote};
 ghost use Rattle.sepref_top.specs.Statuses.{HasFixedLine, HasOutput, line_of};
-ghost use Rattle.sepref_top.specs.Synthesis.{GaveText, IsOther, Synthesis, Synthesized};
+ghost use Rattle.sepref_top.specs.Synthesis.{GaveText, IsOther, Synthesis, Synthesized, Told};
 ghost use Rattle.nres_core.specs.declared.place.Place.{Place as PlaceOf};
 ghost use Rattle.nres_syntax.specs.Refusals.{RefusedAt, RefusedDeep};
 
@@ -35,6 +35,8 @@ fn output_of(alloc: Global, text: &[u8]) -> Result<Output, Status>
     ensures syntax { IfOk result (λ o. (q : PlaceOf) → o.status ≡ Status.Syntax q → RefusedAt text.now q) }
     ensures too_deep { IfOk result (λ o. (q : PlaceOf) → o.status ≡ Status.TooDeep q → RefusedDeep text.now q) }
     ensures other { result ≡ Err Status.NotYet → IsOther text.now }
+    ensures told { IfOk result (λ o. Told text.now o.status) }
+    ensures told_not { IfErr result (λ s. Told text.now s) }
 {
     let (status, line) = match synth(alloc, text) {
         Ok(text) => {
@@ -74,6 +76,10 @@ fn answer<S: Source>(alloc: Global, words: &[String], source: &mut S) -> Result<
         → GaveText (λ text. RefusedDeep text q) (S.remaining source.old) (S.remaining source.new)) }
     ensures other { result ≡ Err Status.NotYet → asked words.now ≡ Some Command.Synth
         → GaveText IsOther (S.remaining source.old) (S.remaining source.new) }
+    ensures told { (text : List ℕ) → S.remaining source.old ≡ Some text → asked words.now ≡ Some Command.Synth
+        → IfOk result (λ o. Told text o.status) }
+    ensures told_not { (text : List ℕ) → S.remaining source.old ≡ Some text → asked words.now ≡ Some Command.Synth
+        → IfErr result (λ s. s ≢ Status.TooLong → Told text s) }
     ensures usage { IfErr result (λ s. s ≡ Status.Usage → asked words.now ≡ None) }
     ensures no_command { asked words.now ≡ None → result ≡ Err Status.Usage }
     ensures not_yet { IfErr result (λ s. s ≡ Status.NotYet → asked words.now ≢ None) }
@@ -150,6 +156,10 @@ pub fn calm_main<S: Source, K: Sink>(
     // A specification that was read and is not served is outside the form.
     ensures other { result ≡ Status.NotYet → asked words.now ≡ Some Command.Synth
         → GaveText IsOther (S.remaining source.old) (S.remaining source.new) }
+    // Each input of at most 1,048,576 bytes is told so: what is served by its program, what is not served by `NotYet`, what
+    // is no specification by a place; unless memory was wanting, or a read or a write failed.
+    ensures told { (text : List ℕ) → S.remaining source.old ≡ Some text → length text ≤ longest
+        → asked words.now ≡ Some Command.Synth → Told text result }
 
     // The output or the line was written whole, or after a failed write a front of it; at `Memory` nothing was written.
     ensures wrote { Wrote result (K.contents sink.old) (K.contents sink.new) }
