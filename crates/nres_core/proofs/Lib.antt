@@ -5,3 +5,4 @@ pub mod FlatMirrored
 pub mod FirstTree
 pub mod OneBlock
 pub mod FirstFlat
+pub mod Sizes

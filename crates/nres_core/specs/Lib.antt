@@ -12,6 +12,8 @@ pub mod Mirrors
 pub mod Ops
 pub mod Runs
 pub mod Samples
+pub mod SizeSamples
+pub mod Sizes
 pub mod Texts
 pub mod Tokens
 pub mod Tree

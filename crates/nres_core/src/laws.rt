@@ -4,6 +4,8 @@ ghost use Rattle.nres_core.specs.FlatSamples as flat_samples;
 ghost use Rattle.nres_core.specs.IdentifySamples as identify_samples;
 ghost use Rattle.nres_core.specs.Mirrors as mirrors;
 ghost use Rattle.nres_core.specs.Samples as samples;
+ghost use Rattle.nres_core.specs.SizeSamples as size_samples;
+ghost use Rattle.nres_core.specs.Sizes as sizes;
 ghost use Rattle.nres_core.specs.TypeSamples as type_samples;
 
 /// The text `first` has its tree.
@@ -44,4 +46,14 @@ pub fn first_typed()
 /// The flat tree of the text `first`.
 pub fn first_is_flat()
     ensures { identify_samples.FirstIsFlat }
+{}
+
+/// A tree is no larger than its text: its size is at most the number of tokens, and its blocks nest no deeper than blocks may be open.
+pub fn no_larger_than_its_text()
+    ensures { sizes.NoLargerThanItsText }
+{}
+
+/// The sizes of small specifications.
+pub fn sizes_seen()
+    ensures { size_samples.Seen }
 {}
