@@ -133,6 +133,15 @@ impl Name {
         })
     }
 
+    /// The same name.
+    pub fn copy(&self, alloc: Global) -> Result<Name, AllocError>
+        ensures { IfOk result (λ name. name ≡ self.now) }
+    {
+        Ok(Name {
+            bytes: Items::from_slice(alloc, self.bytes.as_slice())?,
+        })
+    }
+
     /// The bytes.
     pub fn bytes(&self) -> &[u8]
         ensures { result.now ≡ self.now }
