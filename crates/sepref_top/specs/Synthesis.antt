@@ -4,7 +4,7 @@ use Rattle.std.specs.List.{list_all}
 use Rattle.std.specs.Io.KnownBytes.{Appends, Consumes}
 use Rattle.target_code.specs.Formed.{Formed}
 use Rattle.target_code.specs.declared.tree.Program.{Program}
-use Rattle.target_text.specs.Programs.{program_text}
+use Rattle.target_lines.specs.Programs.{program_text}
 use Rattle.nres_core.specs.FlatTree.{FlatWhole}
 use Rattle.nres_core.specs.Identify.{IsFlatOf}
 use Rattle.nres_core.specs.Texts.{SpecText}

@@ -6,9 +6,9 @@ use Rattle.target_code.specs.declared.tree.Instr.{Instr, out-Instr}
 use Rattle.target_code.specs.declared.tree.Instr.TheOpen as Open
 use Rattle.target_code.specs.declared.tree.Instr.TheViews.{roll-Instr, roll-out-Instr, rolls-Const, rolls-Mov, rolls-Calc, rolls-Load, rolls-Store, rolls-Alloc, rolls-Free, rolls-Call, rolls-Par}
 use Rattle.target_code.specs.declared.tree.Instr.TheFolds.{map-Instr, fold_out-Instr}
-use Rattle.target_text.specs.declared.line.Line.{Line}
-use Rattle.target_text.specs.declared.line.Phrase.TheVariants as phrase
-use Rattle.target_text.specs.Programs.{line, Lines, instr_step, code_step, instr_lines, code_lines, items_lines, is_flat}
+use Rattle.target_lines.specs.declared.line.Line.{Line}
+use Rattle.target_lines.specs.declared.line.Phrase.TheVariants as phrase
+use Rattle.target_lines.specs.Programs.{line, Lines, instr_step, code_step, instr_lines, code_lines, items_lines, is_flat}
 
 pub each_at : (is : List Instr) (n : ℕ) → flat_map (λ (f : Lines). f n) (map instr_lines is) ≡ items_lines n is
 each_at [] n = refl

@@ -1,4 +1,3 @@
-pub mod Words
-pub mod Texts
-pub mod Programs
 pub mod Parts
+pub mod Runs
+pub mod Refusals

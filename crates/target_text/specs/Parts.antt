@@ -6,9 +6,9 @@ use Rattle.target_code.specs.declared.tree.InParam.{InParam}
 use Rattle.target_code.specs.declared.tree.Code.{Code}
 use Rattle.target_code.specs.declared.tree.Instr.{Instr}
 use Rattle.target_code.specs.declared.tree.Proc.{Proc}
-use Rattle.target_text.specs.declared.line.Phrase.TheVariants as phrase
-use Rattle.target_text.specs.Texts.{input_text, result_text}
-use Rattle.target_text.specs.Programs.{line, instr_lines, code_lines, proc_lines, line_feed, lines_text}
+use Rattle.target_lines.specs.declared.line.Phrase.TheVariants as phrase
+use Rattle.target_lines.specs.Texts.{input_text, result_text}
+use Rattle.target_lines.specs.Programs.{line, instr_lines, code_lines, proc_lines, line_feed, lines_text}
 
 -- code at a level
 unfoldable pub code_text : Bool → ℕ → Code → List ℕ

@@ -1,10 +1,15 @@
-//! The text of target programs: one spelling for each.
+//! The text of target programs: one spelling for each. Its printer, and its reader.
 #![tactic(auto)]
 
-mod line;
+mod laws;
 mod printing;
+mod reader;
+#[cfg(test)]
+mod reader_tests;
+mod refusal;
 #[cfg(test)]
 mod tests;
-mod writing;
 
 pub use printing::print_program;
+pub use reader::read_program;
+pub use refusal::NotProgram;

@@ -1,13 +1,13 @@
 //! Programs as text.
 
 ghost use Rattle.std.specs.Prelude.{◌≡◌, ◌+◌, ◌++◌, ◌∷◌, [], OnOk, IfOk};
-ghost use Rattle.target_text.specs.Texts.{indent, instr_text, input_text, result_text, proc_header, register_text, ret_text, sepref_text};
-ghost use Rattle.target_text.specs.Programs as spec;
+ghost use Rattle.target_lines.specs.Texts.{indent, instr_text, input_text, result_text, proc_header, register_text, ret_text, sepref_text};
+ghost use Rattle.target_lines.specs.Programs as spec;
 ghost use Rattle.target_text.specs.Parts as parts;
 
-use crate::writing;
 use std::alloc::{AllocError, Global};
 use target_code::{Code, InParam, Instr, Proc, Program, Rep};
+use target_lines::writing;
 
 /// The text of a program. It has `sepref 2` on its first line, and lends on each line of a `par`, where some branch has
 /// a lend.
@@ -26,7 +26,7 @@ pub fn print_program(alloc: Global, program: &Program) -> Result<Vec<u8>, AllocE
 // ---- lends
 
 /// Whether some branch of the program has a lend.
-fn lends(program: &Program) -> bool
+pub fn lends(program: &Program) -> bool
     ensures { result ≡ spec.lends program.now }
 {
     for proc in program.procs.as_slice() {

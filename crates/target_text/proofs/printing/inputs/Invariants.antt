@@ -1,6 +1,6 @@
 use Rattle.std.proofs.Common.{◌≡◌, ◌++◌, ◌∷◌, [], take}
 use Rattle.std.specs.List.{flat_map}
-use Rattle.target_text.specs.Texts.{input_text}
+use Rattle.target_lines.specs.Texts.{input_text}
 use Rattle.target_text.proofs.printing.inputs.Given as goal
 
 abbrev pub invariant-loop-param : goal.invariant-loop-param

@@ -1,0 +1,6 @@
+use Rattle.target_lines.specs.Words.{keyword_names, keyword_of}
+use Rattle.target_lines.proofs.words.keyword.Goals as goal
+
+pub returns : goal.returns
+unfolding keyword_of keyword_names
+returns c = c.named.ensures

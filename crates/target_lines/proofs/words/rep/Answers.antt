@@ -1,0 +1,6 @@
+use Rattle.target_lines.specs.Words.{rep_names, rep_of}
+use Rattle.target_lines.proofs.words.rep.Goals as goal
+
+pub returns : goal.returns
+unfolding rep_of rep_names
+returns c = c.named.ensures

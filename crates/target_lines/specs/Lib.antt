@@ -1,0 +1,5 @@
+pub mod Words
+pub mod Texts
+pub mod Programs
+pub mod Reading
+pub mod Fits
