@@ -2,6 +2,8 @@
 use Rattle.std.proofs.Common.{◌≡◌, ◌≢◌, ◌⊎◌, inl, inr, ℕ, suc, ◌<◌, ◌≤◌, Bool, true, false, List, [], ◌∷◌, drop, take, length, length-drop, Result, Ok, Err, IfOk, refl, ap, ◌∙◌, sym, subst, arith}
 use Rattle.std.proofs.lemmas.Bool.Decides.{leb_tells}
 use Rattle.std.proofs.lemmas.List.{take_all, drop_all}
+use Rattle.nres_core.proofs.Sizes.{no_larger}
+use Rattle.nres_core.specs.Sizes.{nesting_of, size_of}
 use Rattle.nres_core.specs.Texts.{AreWiths, BeginsText, BeginsWiths, IsFile, SpecText, WithText, open_at_once, operators}
 use Rattle.nres_core.specs.Tokens.{Lexes, StopsAt, after, first}
 use Rattle.nres_core.specs.Words.{Tok, all_seen, place_of}
@@ -184,6 +186,22 @@ spec_refused text ts end q res d g h e =
 pub spec_deep : (text : List ℕ) (ts : List Token) (end q : Place) (res : Result (Spec × List With) SyntaxRefusal) → Lexes 0 first text ts
     → GivesFile (lexes end (all_seen text ts), operators) res → res ≡ Err (refusal.TooDeep q) → RefusedDeep text q
 spec_deep text ts end q res d h e = (ts, d, refused_deep (all_seen text ts) end q res h e)
+
+seen_all : (text : List ℕ) (ts : List Token) → length (all_seen text ts) ≡ length ts
+seen_all text [] = refl
+seen_all text (t ∷ ts) = ap suc (seen_all text ts)
+
+-- the size of the tree, and how deep its blocks nest
+pub spec_small : (text : List ℕ) (ts : List Token) (end : Place) (res : Result (Spec × List With) SyntaxRefusal) → Lexes 0 first text ts
+    → GivesFile (lexes end (all_seen text ts), operators) res → IfOk res (λ y. (us : List Token) → Lexes 0 first text us → size_of y.0 ≤ length us)
+spec_small text ts end (Ok y) d h us e =
+    let n = (no_larger operators rooms (all_seen text ts) y.0 y.1 (read_is (all_seen text ts) end (Ok y) h)).0 in
+    subst (λ k. size_of y.0 ≤ k) (seen_all text ts ∙ ap length (one.one d us e)) n
+spec_small text ts end (Err e) d h = tt
+
+pub spec_shallow : (text : List ℕ) (ts : List Token) (end : Place) (res : Result (Spec × List With) SyntaxRefusal) → GivesFile (lexes end (all_seen text ts), operators) res → IfOk res (λ y. nesting_of y.0 ≤ rooms)
+spec_shallow text ts end (Ok y) h = (no_larger operators rooms (all_seen text ts) y.0 y.1 (read_is (all_seen text ts) end (Ok y) h)).1
+spec_shallow text ts end (Err e) h = tt
 
 -- a text with such a place is none
 pub lexical_only : (text : List ℕ) (q : Place) → StopsAt first text q → (p : Spec) (ws : List With) → SpecText text p ws → ⊥

@@ -1,9 +1,12 @@
 //! Reads whole texts.
 
 ghost use Rattle.std.specs.Prelude.{ℕ, List, ◌≡◌, ◌≢◌, ◌<◌, ◌≤◌, ◌+◌, ◌^◌, [], ◌∷◌, ◌++◌, length, IfOk, OnOk, Ok, Err};
-ghost use Rattle.nres_core.specs.Texts.{SpecText, WithText, operators};
+ghost use Rattle.nres_core.specs.Sizes.{nesting_of, size_of};
+ghost use Rattle.nres_core.specs.Texts.{SpecText, WithText, open_at_once, operators};
+ghost use Rattle.nres_core.specs.Tokens.{Lexes, first};
 ghost use Rattle.nres_core.specs.Words.{all_seen};
 ghost use Rattle.nres_core.specs.declared.place.Place.{Place as PlaceOf};
+ghost use Rattle.nres_core.specs.declared.token.Token.{Token as TokenOf};
 ghost use Rattle.nres_core.specs.declared.tree.Spec.{Spec as SpecOf};
 ghost use Rattle.nres_core.specs.declared.tree.With.{With as WithOf};
 ghost use Rattle.sep_lex.specs.Spans.{AllWithin};
@@ -132,6 +135,9 @@ pub fn read_spec(alloc: Global, input: &[u8]) -> Result<(Spec, Items<With>), Syn
     // What is read has this text, and what has this text is read.
     ensures ok { IfOk result (λ y. SpecText input.now y.0 y.1) }
     ensures only { (p : SpecOf) (ws : List WithOf) → SpecText input.now p ws → result ≢ Err SyntaxRefusal.Memory → result ≡ Ok (p, ws) }
+    // The tree is no larger than the text has tokens, and its blocks nest at most 64 deep.
+    ensures size { IfOk result (λ y. (ts : List TokenOf) → Lexes 0 first input.now ts → size_of y.0 ≤ length ts) }
+    ensures nesting { IfOk result (λ y. nesting_of y.0 ≤ open_at_once) }
     // A refusal names the first place at which no specification can go on.
     ensures at { (q : PlaceOf) → result ≡ Err (SyntaxRefusal.At q) → RefusedAt input.now q }
     ensures too_deep { (q : PlaceOf) → result ≡ Err (SyntaxRefusal.TooDeep q) → RefusedDeep input.now q }

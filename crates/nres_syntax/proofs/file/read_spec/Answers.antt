@@ -22,3 +22,9 @@ returns-clause-too_deep c = λ q e. whole.spec_deep c.args.input.now c.as_slice.
 
 pub returns-in-Err-At-clause-only : goal.returns-in-Err-At-clause-only
 returns-in-Err-At-clause-only c = λ p ws d n. absurd (whole.lexical_only c.args.input.now c.in-Err-At.place (c.in-Err-At.ensures.at c.in-Err-At.place (ap Err c.in-Err-At.field-0-is)) p ws d)
+
+pub returns-clause-size : goal.returns-clause-size
+returns-clause-size c = whole.spec_small c.args.input.now c.as_slice.result.now _ c.file_of.result (let e = c.as_slice.ensures.value in rw e c.in-Ok.ensures.ok) c.file_of.ensures
+
+pub returns-clause-nesting : goal.returns-clause-nesting
+returns-clause-nesting c = whole.spec_shallow c.args.input.now c.as_slice.result.now _ c.file_of.result c.file_of.ensures

@@ -1,0 +1,14 @@
+pub mod Bodies
+pub mod Entries
+pub mod Expressions
+pub mod Fronts
+pub mod Layers
+pub mod Likeness
+pub mod Lists
+pub mod Originals
+pub mod Lexing
+pub mod Places
+pub mod Printed
+pub mod Samples
+pub mod Specifications
+pub mod Tables

@@ -1,0 +1,7 @@
+pub mod Words
+pub mod Heads
+pub mod Exprs
+pub mod Blocks
+pub mod Alike
+pub mod Samples
+pub mod ReadsBack

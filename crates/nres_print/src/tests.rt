@@ -1,0 +1,4 @@
+mod exprs;
+mod loops;
+mod sides;
+mod trees;

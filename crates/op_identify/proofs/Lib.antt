@@ -1,0 +1,3 @@
+mod Layers
+mod Fronts
+mod Words
