@@ -1,0 +1,13 @@
+pub mod Arms
+pub mod Binders
+pub mod Duplicates
+pub mod Entries
+pub mod Heads
+pub mod Joins
+pub mod Parts
+pub mod Procs
+pub mod Results
+pub mod Scopes
+pub mod Steps
+pub mod Tables
+pub mod Walks

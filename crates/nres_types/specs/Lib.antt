@@ -1,0 +1,9 @@
+pub mod Bodies
+pub mod Findings
+pub mod Firsts
+pub mod Logs
+pub mod Patterns
+pub mod Procedures
+pub mod Scopes
+pub mod Wholes
+pub mod Words
