@@ -194,7 +194,7 @@ seen_all text (t ∷ ts) = ap suc (seen_all text ts)
 -- the size of the tree, and how deep its blocks nest
 pub spec_small : (text : List ℕ) (ts : List Token) (end : Place) (res : Result (Spec × List With) SyntaxRefusal) → Lexes 0 first text ts
     → GivesFile (lexes end (all_seen text ts), operators) res → IfOk res (λ y. (us : List Token) → Lexes 0 first text us → size_of y.0 ≤ length us)
-spec_small text ts end (Ok y) d h us e =
+spec_small text ts end (Ok y) d h = λ us e.
     let n = (no_larger operators rooms (all_seen text ts) y.0 y.1 (read_is (all_seen text ts) end (Ok y) h)).0 in
     subst (λ k. size_of y.0 ≤ k) (seen_all text ts ∙ ap length (one.one d us e)) n
 spec_small text ts end (Err e) d h = tt
