@@ -1,6 +1,8 @@
 //! The commands: from words and the bytes of a source to the bytes of a sink and a status.
 #![tactic(auto)]
 
+#[cfg(test)]
+mod canonical_tests;
 mod status;
 mod synthesis;
 #[cfg(test)]
