@@ -1,3 +1,4 @@
+pub mod Cuts
 pub mod Tops
 pub mod Names
 pub mod Told

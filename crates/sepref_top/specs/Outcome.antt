@@ -27,6 +27,7 @@ TellsLength result old new = (n : ℕ) × (Gave old new n × GaveTooMuch result 
 -- what went to the sink: the output, the status's line, some front of them, or nothing
 abbrev pub Wrote : Status → Option (List ℕ) → Option (List ℕ) → Type 0
 Wrote status.Done old new = (text : List ℕ) × Appends old new text
+Wrote status.Type_ old new = (text : List ℕ) × Appends old new text
 Wrote status.WriteFault old new = (front : List ℕ) × Appends old new front
 Wrote status.Memory old new = Keeps old new
 Wrote s old new = Appends old new (line_of s)

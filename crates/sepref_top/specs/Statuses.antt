@@ -9,6 +9,8 @@ code_of status.Done = 0
 code_of status.Usage = 1
 code_of (status.Syntax p) = 2
 code_of (status.TooDeep p) = 2
+code_of status.Type_ = 3
+code_of (status.NotProgram k) = 9
 code_of status.TooLong = 11
 code_of status.ReadFault = 20
 code_of status.WriteFault = 21
@@ -19,12 +21,14 @@ code_of status.NotYet = 40
 abbrev pub placed : List ℕ → Place → List ℕ
 placed words p = words ++ (decimal p.line ++ (codes " " ++ (decimal p.column ++ (10 ∷ []))))
 
--- a line and its line feed
+-- a line and its line feed; that of a type error tells more than the status
 abbrev pub line_of : Status → List ℕ
 line_of status.Done = []
 line_of status.Usage = codes "! usage" ++ (10 ∷ [])
 line_of (status.Syntax p) = placed (codes "! syntax ") p
 line_of (status.TooDeep p) = placed (codes "! too deep ") p
+line_of status.Type_ = []
+line_of (status.NotProgram k) = codes "! not a program " ++ (decimal k ++ (10 ∷ []))
 line_of status.TooLong = codes "! too long" ++ (10 ∷ [])
 line_of status.ReadFault = codes "! read fault" ++ (10 ∷ [])
 line_of status.WriteFault = []
@@ -36,6 +40,8 @@ abbrev pub HasFixedLine : Status → Type 0
 HasFixedLine status.Done = ⊥
 HasFixedLine (status.Syntax p) = ⊥
 HasFixedLine (status.TooDeep p) = ⊥
+HasFixedLine status.Type_ = ⊥
+HasFixedLine (status.NotProgram k) = ⊥
 HasFixedLine status.WriteFault = ⊥
 HasFixedLine status.Memory = ⊥
 HasFixedLine s = Unit {0}
@@ -45,6 +51,8 @@ abbrev pub HasOutput : Status → Type 0
 HasOutput status.Done = Unit {0}
 HasOutput (status.Syntax p) = Unit {0}
 HasOutput (status.TooDeep p) = Unit {0}
+HasOutput status.Type_ = Unit {0}
+HasOutput (status.NotProgram k) = Unit {0}
 HasOutput s = ⊥
 
 -- there was no memory, or a read or a write failed
@@ -59,3 +67,8 @@ abbrev pub TellsPlace : Status → Type 0
 TellsPlace (status.Syntax p) = Unit {0}
 TellsPlace (status.TooDeep p) = Unit {0}
 TellsPlace s = ⊥
+
+-- it tells the line at which the front is no program
+abbrev pub TellsLine : Status → Type 0
+TellsLine (status.NotProgram k) = Unit {0}
+TellsLine s = ⊥

@@ -3,11 +3,13 @@
 
 #[cfg(test)]
 mod canonical_tests;
+mod execution;
 mod status;
 mod synthesis;
 #[cfg(test)]
 mod tests;
 mod top;
+mod type_line;
 mod words;
 
 pub use status::Status;

@@ -11,10 +11,15 @@ pub enum Status {
     Done,
     /// The words are no command line.
     Usage,
-    /// The input is no specification: this is the first place at which none can go on.
+    /// The input is no specification, or what stands behind a program is no list of values: this is the first place at which
+    /// none can go on.
     Syntax(Place),
     /// The same, where a limit alone is at fault.
     TooDeep(Place),
+    /// The specification is not typed; the line tells where and why.
+    Type_,
+    /// What stands before the values is the text of no program: this line is refused.
+    NotProgram(u64),
     /// The source gave more than 1,048,576 bytes.
     TooLong,
     /// A read failed.
@@ -38,6 +43,8 @@ impl Status {
             Status::Done => 0,
             Status::Usage => 1,
             Status::Syntax(_) | Status::TooDeep(_) => 2,
+            Status::Type_ => 3,
+            Status::NotProgram(_) => 9,
             Status::TooLong => 11,
             Status::ReadFault => 20,
             Status::WriteFault => 21,

@@ -8,6 +8,22 @@ const FIRST: &str = "spec first (xs: list as array kept) : nat\n  x <- get xs 0\
 const FIRST_PROGRAM: &str =
     "sepref 1\nin xs array kept\nout word\nproc main 3 5\n  r3 = const 0\n  r4 = call array_get(r0, r1, r2, r3)\n  ret r4\nend\nproc array_get 4 6\n  r4 = add r1 r3\n  r5 = load r0 r4\n  ret r5\nend\n";
 
+const FIRST_LINES: [&str; 13] = [
+    "sepref 1",
+    "in xs array kept",
+    "out word",
+    "proc main 3 5",
+    "  r3 = const 0",
+    "  r4 = call array_get(r0, r1, r2, r3)",
+    "  ret r4",
+    "end",
+    "proc array_get 4 6",
+    "  r4 = add r1 r3",
+    "  r5 = load r0 r4",
+    "  ret r5",
+    "end",
+];
+
 const ONE: &str = "spec one () : nat\n  return 1\nend\n";
 
 const ONE_PROGRAM: &str = "sepref 1\nout word\nproc main 0 1\n  r0 = const 1\n  ret r0\nend\n";
@@ -50,20 +66,80 @@ fn the_form_is_served_and_nothing_else(rt: HostRuntime) -> Result<(), Fail> {
             "spec one () : nat\n  return 1\nend\nwith x = [1, 2]\n",
             (0, ONE_PROGRAM),
         ),
-        ("spec one () : nat\n  return x\nend\n", not_yet),
         ("spec one () : nat\n  return 1 + 1\nend\n", not_yet),
         (
             "spec first (xs: list as array) : nat\n  x <- get xs 0\n  return x\nend\n",
-            not_yet,
-        ),
-        (
-            "spec first (xs: list as array kept) : nat\n  x <- get ys 0\n  return x\nend\n",
             not_yet,
         ),
     ] {
         let (code, written) = run(rt.alloc(), &["synth"], input.as_bytes(), NEVER, NEVER)?;
         assert_eq!(rt; code, status, "{input}");
         assert!(rt; written.as_slice() == output.as_bytes(), "{input}");
+    }
+    Ok(())
+}
+
+#[test]
+fn what_is_typed_is_checked_before_it_is_served(rt: HostRuntime) -> Result<(), Fail> {
+    for (input, (status, output)) in [
+        (FIRST, (0, FIRST)),
+        ("spec one():nat return 1 end", (0, ONE)),
+        (
+            "# one\nspec one () : nat\r\n\treturn (1)\nend\nwith x = 1\n",
+            (0, ONE),
+        ),
+        (
+            "spec one () : nat\n  return 1 + 1\nend\n",
+            (40, "! not yet\n"),
+        ),
+        ("spec one () nat", (2, "! syntax 1 13\n")),
+        (
+            "spec a () : nat\n  return true\nend\n",
+            (3, "! type 2 10 mismatch nat bool\n"),
+        ),
+    ] {
+        let (code, written) = run(rt.alloc(), &["check"], input.as_bytes(), NEVER, NEVER)?;
+        assert_eq!(rt; code, status, "{input}");
+        assert!(rt; written.as_slice() == output.as_bytes(), "{input}");
+    }
+    Ok(())
+}
+
+#[test]
+fn the_first_broken_rule_is_told(rt: HostRuntime) -> Result<(), Fail> {
+    for (input, output) in [
+        (
+            "spec a () : nat\n  y <- x + 1\n  return y\nend\n",
+            "! type 2 8 unbound x\n",
+        ),
+        (
+            "spec first (xs: list as array kept) : nat\n  x <- get ys 0\n  return x\nend\n",
+            "! type 2 12 unbound ys\n",
+        ),
+        (
+            "spec a () : nat\n  return (1, 2)\nend\n",
+            "! type 2 3 arity 1 2\n",
+        ),
+        (
+            "spec a () : nat\n  x <- copy 1\n  return x\nend\n",
+            "! type 2 8 no operation copy nat\n",
+        ),
+        (
+            "spec a () : nat\n  return 1\nend\nfun f () : nat\n  return 1\nend\nfun f () : nat\n  return 1\nend\n",
+            "! type 7 5 duplicate f\n",
+        ),
+        (
+            "spec a (xs: list as bits 1000) : nat\n  return 1\nend\n",
+            "! type 1 21 representation bits 1000\n",
+        ),
+    ] {
+        for word in ["check", "synth", "eval", "run"] {
+            let (code, written) = run(rt.alloc(), &[word], input.as_bytes(), NEVER, NEVER)?;
+            assert!(rt;
+                code == 3 && written.as_slice() == output.as_bytes(),
+                "{word}: {input}"
+            );
+        }
     }
     Ok(())
 }
@@ -139,6 +215,73 @@ fn literals_and_names_go_to_their_limits(rt: HostRuntime) -> Result<(), Fail> {
     Ok(())
 }
 
+// The program of the first specification with another line in place of one, or cut before it.
+fn changed(alloc: Global, line: usize, new: Option<&str>) -> Result<String, Fail> {
+    let mut text = String::new(alloc);
+    for index in 0..FIRST_LINES.len() {
+        if index + 1 != line {
+            text.push_str(FIRST_LINES[index])?;
+        } else if let Some(new) = new {
+            text.push_str(new)?;
+        } else {
+            return Ok(text);
+        }
+        text.push('\n')?;
+    }
+    Ok(text)
+}
+
+#[test]
+fn what_is_no_program_is_told_by_its_line(rt: HostRuntime) -> Result<(), Fail> {
+    for (line, new, told) in [
+        (1, None, "! not a program 1\n"),
+        (7, None, "! not a program 7\n"),
+        (9, None, "! not a program 9\n"),
+        (4, Some("proc main 2 5"), "! not a program 4\n"),
+        (
+            6,
+            Some("  r4 = call array_get(r0, r1, r2, r9)"),
+            "! not a program 6\n",
+        ),
+        (7, Some("  ret"), "! not a program 7\n"),
+        (9, Some("proc array_get 3 6"), "! not a program 9\n"),
+        (10, Some("  r4 = add r1  r3"), "! not a program 10\n"),
+        (12, Some("  ret r6"), "! not a program 12\n"),
+    ] {
+        let input = changed(rt.alloc(), line, new)?;
+        let (code, written) = run(rt.alloc(), &["exec"], input.as_bytes(), NEVER, NEVER)?;
+        assert!(rt;
+            code == 9 && written.as_slice() == told.as_bytes(),
+            "line {line}"
+        );
+    }
+    Ok(())
+}
+
+#[test]
+fn values_stand_behind_a_program(rt: HostRuntime) -> Result<(), Fail> {
+    for (behind, (status, told)) in [
+        ("", (40, "! not yet\n")),
+        ("with xs = [7, 8]\n", (40, "! not yet\n")),
+        ("with xs = [7, 8]", (40, "! not yet\n")),
+        (
+            "with xs = [7, 8]\nwith y = true # two\n",
+            (40, "! not yet\n"),
+        ),
+        ("with xs 7\n", (2, "! syntax 14 9\n")),
+        ("with xs = [7\n", (2, "! syntax 15 1\n")),
+        ("with xs = 7\nend\n", (2, "! syntax 15 1\n")),
+        ("# none\nwith xs = 7\n", (9, "! not a program 14\n")),
+        ("with\n", (9, "! not a program 14\n")),
+    ] {
+        let input = format!(in rt.alloc(); "{FIRST_PROGRAM}{behind}")?;
+        let (code, written) = run(rt.alloc(), &["exec"], input.as_bytes(), NEVER, NEVER)?;
+        assert_eq!(rt; code, status, "{behind}");
+        assert!(rt; written.as_slice() == told.as_bytes(), "{behind}");
+    }
+    Ok(())
+}
+
 #[test]
 fn words_that_are_no_command_line_are_told(rt: HostRuntime) -> Result<(), Fail> {
     for (words, status, output) in [
@@ -147,10 +290,10 @@ fn words_that_are_no_command_line_are_told(rt: HostRuntime) -> Result<(), Fail> 
         (&["Synth"], 1, "! usage\n"),
         (&["bulk"], 1, "! usage\n"),
         (&[""], 1, "! usage\n"),
-        (&["check"], 40, "! not yet\n"),
+        (&["check"], 0, FIRST),
         (&["eval"], 40, "! not yet\n"),
         (&["run"], 40, "! not yet\n"),
-        (&["exec"], 40, "! not yet\n"),
+        (&["exec"], 9, "! not a program 1\n"),
     ] {
         let (code, written) = run(rt.alloc(), words, FIRST.as_bytes(), NEVER, NEVER)?;
         assert!(rt;
