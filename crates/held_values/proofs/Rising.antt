@@ -6,19 +6,8 @@ use Rattle.std.specs.Ordering.{nat_cmp}
 use Rattle.std.specs.Cmp.{nat_cmp_total, unsigned_tied}
 use Rattle.std.specs.FinSet as sets
 use Rattle.std.specs.FinSet.{from_list}
+use Rattle.sequences.proofs.Places.{above_lower, below_none, has_none}
 use Rattle.sequences.specs.Keys.{AllAbove, IsRising, below, has, place_of}
-
-above_lower : (k x : ℕ) (xs : List ℕ) → k < x → AllAbove x xs → AllAbove k xs
-above_lower k x [] h a = tt
-above_lower k x (y ∷ ys) h a = let b : x < y = a.0 in (omega arith, above_lower k x ys h a.1)
-
-below_none : (k : ℕ) (xs : List ℕ) → AllAbove k xs → below k xs ≡ 0
-below_none k [] a = refl
-below_none k (y ∷ ys) a = let h : k < y = a.0 in rw (le-ltb y k (omega arith)) (below_none k ys a.1)
-
-has_none : (k : ℕ) (xs : List ℕ) → AllAbove k xs → has k xs ≡ false
-has_none k [] a = refl
-has_none k (y ∷ ys) a = let h : k < y = a.0 in rw (ne_eqb k y (omega arith)) (has_none k ys a.1)
 
 below_cases : (k y : ℕ) (ys : List ℕ) (P : ℕ → Type 0) → AllAbove y ys → (y < k → P (suc (below k ys))) → (k ≤ y → P 0) → P (below k (y ∷ ys))
 below_cases k y ys P a low high =

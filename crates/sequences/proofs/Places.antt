@@ -4,7 +4,7 @@ use Rattle.std.proofs.lemmas.List.{map-append, length-map}
 use Rattle.std.proofs.lemmas.Bool.{lt-ltb, le-ltb, eq-eqb, ne_eqb}
 use Rattle.sequences.specs.Keys.{AllAbove, IsRising, below, has, place_of}
 
-above_lower : (k x : ℕ) (xs : List ℕ) → k < x → AllAbove x xs → AllAbove k xs
+pub above_lower : (k x : ℕ) (xs : List ℕ) → k < x → AllAbove x xs → AllAbove k xs
 above_lower k x [] h a = tt
 above_lower k x (y ∷ ys) h a = let b : x < y = a.0 in (omega arith, above_lower k x ys h a.1)
 
@@ -24,11 +24,11 @@ pub rising_back : (l : List ℕ) (x : ℕ) (r : List ℕ) → IsRising (l ++ x �
 rising_back [] x r s = s
 rising_back (y ∷ l) x r s = rising_back l x r s.1
 
-below_none : (k : ℕ) (xs : List ℕ) → AllAbove k xs → below k xs ≡ 0
+pub below_none : (k : ℕ) (xs : List ℕ) → AllAbove k xs → below k xs ≡ 0
 below_none k [] a = refl
 below_none k (y ∷ ys) a = let h : k < y = a.0 in rw (le-ltb y k (omega arith)) (below_none k ys a.1)
 
-has_none : (k : ℕ) (xs : List ℕ) → AllAbove k xs → has k xs ≡ false
+pub has_none : (k : ℕ) (xs : List ℕ) → AllAbove k xs → has k xs ≡ false
 has_none k [] a = refl
 has_none k (y ∷ ys) a = let h : k < y = a.0 in rw (ne_eqb k y (omega arith)) (has_none k ys a.1)
 
