@@ -1,0 +1,6 @@
+pub mod Environments
+pub mod Laws
+pub mod Samples
+pub mod Served
+pub mod Taken
+pub mod Values

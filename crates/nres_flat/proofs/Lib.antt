@@ -1,0 +1,9 @@
+mod Adding
+mod Blocks
+mod Bodies
+mod Joining
+mod Lookups
+mod Loops
+mod Outcomes
+mod Params
+mod Wholes
