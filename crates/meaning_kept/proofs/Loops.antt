@@ -4,7 +4,7 @@ use Rattle.std.proofs.Math.Seq.{get_or-append_seam}
 use Rattle.std.proofs.lemmas.Bool.{lt-ltb, le-ltb, lt-leb, ltb-true}
 use Rattle.std.proofs.lemmas.List.Sorted.{length_permutation}
 use Rattle.std.specs.Prelude.{slice_index}
-use Rattle.std.specs.FinSet as sets
+use Rattle.numbers.specs.Sets as sets
 use Rattle.nres_core.specs.Runs.{Runs, Done, Failed, Over, Choose, Order_of, May, ◌>>=◌}
 use Rattle.nres_core.specs.Ops.{op_runs, calc_runs, truth_runs, at_line, one, fail_if}
 use Rattle.nres_core.specs.FlatTree as f

@@ -1,6 +1,6 @@
 -- What operations and calculations give is of their types.
 use Rattle.std.proofs.Common.{ℕ, Bool, true, false, cond, List, [], ◌∷◌, Option, Some, None}
-use Rattle.std.specs.FinSet as sets
+use Rattle.numbers.specs.Sets as sets
 use Rattle.std.specs.FinMap as maps
 use Rattle.nres_core.specs.Ops.{op_out, calc_out, fail_if, popped, one_of, found, least, taken, one}
 use Rattle.nres_core.specs.Runs.{Failed, Choose, May, Between, One_of, Order_of, Done}

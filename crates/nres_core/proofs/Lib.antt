@@ -1,4 +1,3 @@
-pub mod Containers
 pub mod FirstText
 pub mod Mirrored
 pub mod FlatMirrored

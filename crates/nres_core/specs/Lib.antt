@@ -1,4 +1,3 @@
-pub mod Bag
 pub mod FlatSamples
 pub mod FlatTree
 pub mod FlatTyped

@@ -5,7 +5,7 @@ use Rattle.std.specs.FinSet as sets
 use Rattle.std.specs.Ordering.{nat_cmp}
 use Rattle.target_code.specs.declared.tree.Rep.{Rep}
 use Rattle.target_code.specs.declared.tree.Rep.TheVariants as rep
-use Rattle.nres_core.specs.Bag.{bag_of}
+use Rattle.numbers.specs.Bag.{bag_of}
 use Rattle.nres_core.specs.Grammar.{IsRep, IsBlock}
 use Rattle.nres_core.specs.Tokens.{Lexes, first}
 use Rattle.nres_core.specs.Words.{Tok, all_seen, word, sign, name, number, place_of, plain_word, type_word, truth_word}

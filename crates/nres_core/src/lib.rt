@@ -5,13 +5,10 @@
 mod flat;
 mod identified;
 pub mod laws;
-mod nums;
 mod op;
 mod place;
 mod refusal;
 mod row;
-#[cfg(test)]
-mod tests;
 mod token;
 mod tree;
 mod ty;
@@ -19,7 +16,7 @@ mod value;
 
 pub use flat::{Arg, Flat, FlatBind, FlatBlock, FlatFun};
 pub use identified::{IdBlock, IdBody, IdExpr, IdFun, IdStep, Identified};
-pub use nums::{NumBag, NumMap, NumSet, Nums};
+pub use numbers::{NumBag, NumMap, NumSet, Nums};
 pub use op::Op;
 pub use place::{Named, Place};
 pub use refusal::{Refusal, Why};

@@ -4,7 +4,7 @@ use Rattle.std.specs.FinMap as maps
 use Rattle.std.specs.FinSet as sets
 use Rattle.std.proofs.lemmas.Bool.{false≢true}
 use Rattle.target_code.specs.declared.tree.Rep.{Rep}
-use Rattle.nres_core.specs.Bag.{bag_of}
+use Rattle.numbers.specs.Bag.{bag_of}
 use Rattle.nres_core.specs.Grammar as g
 use Rattle.nres_core.specs.Grammar.{IsRep, IsBlock}
 use Rattle.nres_core.specs.Texts as texts

@@ -6,7 +6,7 @@ use Rattle.target_code.specs.declared.tree.Calc.{Calc}
 use Rattle.target_code.specs.declared.tree.Calc.TheVariants as calc
 use Rattle.target_code.specs.declared.tree.Rep.{Rep}
 use Rattle.target_code.specs.declared.tree.Rep.TheVariants as reps
-use Rattle.nres_core.specs.Bag.{bag_of}
+use Rattle.numbers.specs.Bag.{bag_of}
 use Rattle.nres_core.specs.Grammar.{is_chain}
 use Rattle.nres_core.specs.Texts.{operators, param, put_all}
 use Rattle.nres_core.specs.Words.{named}

@@ -3,7 +3,7 @@ use Rattle.std.proofs.Math.Seq.{take-suc}
 use Rattle.std.proofs.Math.ListN.{get_or}
 use Rattle.std.proofs.Common.{arith, take, length, ◌<◌, ◌+◌, ◌≡◌, ◌≢◌, ℕ, suc, ◌-◌, Bool, true, false, List, [], ◌∷◌, ◌++◌, refl, ap, ◌∙◌, sym}
 use Rattle.std.specs.FinMap as maps
-use Rattle.nres_core.specs.Bag.{bag_of, no_number as empty_bag}
+use Rattle.numbers.specs.Bag.{bag_of, no_number as empty_bag}
 use Rattle.nres_core.specs.Texts.{put_all}
 use Rattle.nres_core.specs.declared.place.Place.{Place}
 use Rattle.nres_core.specs.declared.ty.Ty.TheVariants as ty

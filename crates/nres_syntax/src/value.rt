@@ -3,7 +3,7 @@
 ghost use Rattle.std.specs.Prelude.{ℕ, List, ◌≡◌, ◌≢◌, ◌<◌, ◌≤◌, [], ◌∷◌, ◌++◌, length, IfOk, OnOk, true, false};
 ghost use Rattle.std.specs.FinMap as maps;
 ghost use Rattle.std.specs.FinSet as sets;
-ghost use Rattle.nres_core.specs.Bag.{bag_of};
+ghost use Rattle.numbers.specs.Bag.{bag_of};
 ghost use Rattle.nres_core.specs.Texts.{put_all};
 ghost use Rattle.nres_machine.specs.Cursor.{left};
 ghost use Rattle.nres_machine.specs.Machine.{Mode, Reads, braces as braces_mode, members as members_mode, number as number_mode, numbers as numbers_mode, numbers_read, pair_of, pass, value as value_mode};
@@ -66,14 +66,14 @@ fn numbers(
     cursor: &mut Cursor<'_>,
     room: u8,
     close: Fixed,
-    mut all: Nums,
-) -> Result<Nums, SyntaxRefusal>
+    mut all: Items<u64>,
+) -> Result<Items<u64>, SyntaxRefusal>
     ensures reads { Reads room (numbers_mode close all) (left cursor.old) result (left cursor.new) }
     ensures shorter { OnOk result (length (left cursor.new).0 < length (left cursor.old).0) }
 {
     'each: loop {
         let found = number(cursor, room)?;
-        all.add(found)?;
+        all.push(found)?;
         let goes_on = more(cursor, room, close)?;
         if !goes_on {
             return Ok(all);
@@ -87,16 +87,16 @@ fn members(
     cursor: &mut Cursor<'_>,
     room: u8,
     close: Fixed,
-) -> Result<Nums, SyntaxRefusal>
+) -> Result<Items<u64>, SyntaxRefusal>
     ensures reads { Reads room (members_mode close) (left cursor.old) result (left cursor.new) }
     ensures shorter { OnOk result (length (left cursor.new).0 < length (left cursor.old).0) }
 {
     let next = cursor.peek();
     if is_fixed(close, next.lexeme) {
         cursor.take();
-        return Ok(Nums::new(alloc));
+        return Ok(Items::new(alloc));
     }
-    numbers(cursor, room, close, Nums::new(alloc))
+    numbers(cursor, room, close, Items::new(alloc))
 }
 
 /// A pair behind its key, further pairs behind these, and the bracket behind them.
@@ -157,12 +157,12 @@ fn set_members(
     cursor: &mut Cursor<'_>,
     room: u8,
     first: u64,
-) -> Result<Nums, SyntaxRefusal>
+) -> Result<Items<u64>, SyntaxRefusal>
     ensures reads { Reads room (λ k. numbers_read Fixed.CloseBrace (first ∷ []) k) (left cursor.old) result (left cursor.new) }
     ensures shorter { OnOk result (length (left cursor.new).0 < length (left cursor.old).0) }
 {
-    let mut all = Nums::new(alloc);
-    all.add(first)?;
+    let mut all = Items::new(alloc);
+    all.push(first)?;
     let goes_on = more(cursor, room, Fixed::CloseBrace)?;
     if !goes_on {
         return Ok(all);
@@ -176,7 +176,8 @@ fn bracketed(alloc: Global, cursor: &mut Cursor<'_>, room: u8) -> Result<Value, 
     ensures shorter { OnOk result (length (left cursor.new).0 < length (left cursor.old).0) }
 {
     let found = members(alloc, cursor, room, Fixed::CloseSquare)?;
-    Ok(Value::List(found))
+    let list = Nums::from_slice(alloc, found.as_slice())?;
+    Ok(Value::List(list))
 }
 
 /// A multiset behind its word.

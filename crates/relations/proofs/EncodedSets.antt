@@ -3,7 +3,8 @@ use Rattle.std.proofs.Common.{◌≡◌, ℕ, zero, suc, ◌+◌, ◌/◌, ◌%�
 use Rattle.std.proofs.Math.Path.{fun_ext}
 use Rattle.std.proofs.lemmas.Bool.{cond-false}
 use Rattle.std.specs.Cmp.{nat_cmp_total}
-use Rattle.std.specs.FinSet as sets
+use Rattle.numbers.specs.Sets as sets
+use Rattle.numbers.proofs.SetItems.{contains-items}
 use Rattle.std.specs.Int.{bit_at}
 use Rattle.std.specs.List.{list_any}
 use Rattle.std.specs.Ordering.{nat_cmp, eq_by_cmp}
@@ -74,12 +75,12 @@ table = record {
 }
 
 has_is : (s : Set) (xs : List ℕ) → sets.items s ≡ xs → sets.contains s ≡ (λ x. list_any (eq_by_cmp nat_cmp x) xs)
-has_is s xs e = fun_ext (λ x. sets.contains-items s x ∙ ap (λ ys. list_any (eq_by_cmp nat_cmp x) ys) e)
+has_is s xs e = fun_ext (λ x. contains-items s x ∙ ap (λ ys. list_any (eq_by_cmp nat_cmp x) ys) e)
 
 set_is : (s : Set) (xs : List ℕ) → sets.items s ≡ xs → s ≡ set_of xs
 set_is s xs e =
     sets.same_set nat_cmp_total sets.nat_cmp-IsAntisymmetric s (set_of xs) (λ q.
-    sets.contains-items s q ∙ ap (λ ys. list_any (eq_by_cmp nat_cmp q) ys) e ∙ sym (sets.contains-from_list nat_cmp_total xs q))
+    contains-items s q ∙ ap (λ ys. list_any (eq_by_cmp nat_cmp q) ys) e ∙ sym (sets.contains-from_list nat_cmp_total xs q))
 
 one_more : (x : ℕ) (xs : List ℕ) → list_any (eq_by_cmp nat_cmp x) xs ≡ false → sets.len (set_of (x ∷ xs)) ≡ sets.len (set_of xs) + 1
 one_more x xs e = sets.len-insert nat_cmp_total (set_of xs) x ∙ cond-false (sets.contains (set_of xs) x) _ _ (sets.contains-from_list nat_cmp_total xs x ∙ e)

@@ -1,5 +1,5 @@
--- Changes of a list l ++ x ∷ r past the item x.
-use Rattle.std.proofs.Common.{◌≡◌, ℕ, suc, ◌-◌, ◌<◌, List, ◌∷◌, ◌++◌, length, set, insert, remove, Result, IfOk, ap, ◌∙◌, subst, arith}
+-- Changes and parts of a list l ++ x ∷ r past the item x.
+use Rattle.std.proofs.Common.{◌≡◌, ℕ, zero, suc, ◌+◌, ◌-◌, ◌<◌, List, [], ◌∷◌, ◌++◌, length, set, insert, remove, take, drop, replicate, Result, IfOk, refl, ap, ◌∙◌, subst, arith}
 use Rattle.std.proofs.lemmas.List.{set-append_right}
 use Rattle.std.proofs.lemmas.List.Edits.{insert-append_right, remove-append_right}
 
@@ -22,6 +22,24 @@ pub remove-at : {T : Type 0} (l : List T) (x : T) (r : List T) (i : ℕ) → len
 remove-at l x r i e =
     let none : i - i ≡ 0 = omega arith in
     remove-append_right l (x ∷ r) i i e (omega arith) ∙ ap (λ k. l ++ remove (x ∷ r) k) none
+
+pub take-after : {T : Type 0} (l : List T) (x : T) (r : List T) (i j : ℕ) → i ≡ length l + suc j → take i (l ++ x ∷ r) ≡ l ++ x ∷ take j r
+take-after [] x r i j e = let next : i ≡ suc j = omega arith in ap (λ k. take k (x ∷ r)) next
+take-after (y ∷ l) x r i j e =
+    let next : i ≡ suc (length l + suc j) = omega arith in
+    ap (λ k. take k (y ∷ (l ++ x ∷ r))) next ∙ ap (λ zs. y ∷ zs) (take-after l x r (length l + suc j) j refl)
+
+pub drop-after : {T : Type 0} (l : List T) (x : T) (r : List T) (i j : ℕ) → i ≡ length l + suc j → drop i (l ++ x ∷ r) ≡ drop j r
+drop-after [] x r i j e = let next : i ≡ suc j = omega arith in ap (λ k. drop k (x ∷ r)) next
+drop-after (y ∷ l) x r i j e =
+    let next : i ≡ suc (length l + suc j) = omega arith in
+    ap (λ k. drop k (y ∷ (l ++ x ∷ r))) next ∙ drop-after l x r (length l + suc j) j refl
+
+pub halves : {T : Type 0} (m n k : ℕ) (x : T) → k ≡ m + suc n → replicate m x ++ x ∷ replicate n x ≡ replicate k x
+halves zero n k x e = let next : suc n ≡ k = omega arith in ap (λ i. replicate i x) next
+halves (suc m) n k x e =
+    let next : suc (m + suc n) ≡ k = omega arith in
+    ap (λ zs. x ∷ zs) (halves m n (m + suc n) x refl) ∙ ap (λ i. replicate i x) next
 
 -- what a result is may be told in another way
 pub or_else_is : {T E : Type 0} {u v : List T} (r : Result (List T) E) → IfOk r (λ s. s ≡ u) → u ≡ v → IfOk r (λ s. s ≡ v)

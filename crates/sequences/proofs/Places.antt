@@ -91,7 +91,7 @@ pub place_right : (k : ℕ) (l : List ℕ) (x : ℕ) (r : List ℕ) → x < k �
 place_right k l x r h s = rw (has_right k l x r h s) (past_cond (length l + 1) (below k r) (below k (l ++ x ∷ r)) (has k r) (below_right k l x r h s))
 
 module _ {T : Type 0} (K : T → ℕ) where
-  keys_of : (self l : List T) (x : T) (r : List T) → self ≡ l ++ x ∷ r → map K self ≡ map K l ++ K x ∷ map K r
+  pub keys_of : (self l : List T) (x : T) (r : List T) → self ≡ l ++ x ∷ r → map K self ≡ map K l ++ K x ∷ map K r
   keys_of self l x r e = ap (map K) e ∙ map-append K l (x ∷ r)
 
   pub search_left : (self l : List T) (x : T) (r : List T) (k : ℕ) (p : Result ℕ ℕ) → self ≡ l ++ x ∷ r → k < K x → (IsRising (map K l) → p ≡ place_of k (map K l)) → IsRising (map K self) → p ≡ place_of k (map K self)

@@ -1,5 +1,5 @@
 -- Keys in order.
-use Rattle.std.specs.Prelude.{ℕ, suc, ◌<◌, Bool, false, cond, ◌||◌, List, [], ◌∷◌, Result, Ok, Err, ◌==◌, nat_lt}
+use Rattle.std.specs.Prelude.{ℕ, suc, ◌<◌, ◌≤◌, Bool, false, cond, ◌||◌, List, [], ◌∷◌, Result, Ok, Err, ◌==◌, nat_lt}
 
 -- each key is above k
 abbrev pub AllAbove : ℕ → List ℕ → Type 0
@@ -10,6 +10,16 @@ AllAbove k (x ∷ xs) = (k < x) × AllAbove k xs
 abbrev pub IsRising : List ℕ → Type 0
 IsRising [] = Unit {0}
 IsRising (x ∷ xs) = AllAbove x xs × IsRising xs
+
+-- each key is at least k
+abbrev pub AllFrom : ℕ → List ℕ → Type 0
+AllFrom k [] = Unit {0}
+AllFrom k (x ∷ xs) = (k ≤ x) × AllFrom k xs
+
+-- each key is at most all later ones
+abbrev pub IsAscending : List ℕ → Type 0
+IsAscending [] = Unit {0}
+IsAscending (x ∷ xs) = AllFrom x xs × IsAscending xs
 
 -- how many keys are below k
 abbrev pub below : ℕ → List ℕ → ℕ

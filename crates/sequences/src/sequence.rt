@@ -1,8 +1,8 @@
 //! Sequences as balanced trees that share their parts.
 
-ghost use Rattle.std.specs.Prelude.{◌≡◌, ◌<◌, ◌≤◌, [], ◌∷◌, ◌++◌, length, map, set, insert, remove, slice_get, IfOk, OnOk, MatchResult};
+ghost use Rattle.std.specs.Prelude.{◌≡◌, ◌<◌, ◌≤◌, [], ◌∷◌, ◌++◌, length, map, set, insert, remove, take, drop, replicate, slice_get, IfOk, OnOk, MatchResult};
 ghost use Rattle.sequences.specs.Ends.{first_and_rest};
-ghost use Rattle.sequences.specs.Keys.{IsRising, place_of};
+ghost use Rattle.sequences.specs.Keys.{IsRising, IsAscending, below, place_of};
 
 #[cfg(test)]
 mod tests;
@@ -159,13 +159,65 @@ impl<T: Copy> Sequence<T> {
                     let left = fork.left.with_removed(alloc, at)?;
                     Sequence::balanced(alloc, left, fork.item, fork.right.share()?)
                 } else if at == before {
-                    Sequence::joined(alloc, &fork.left, &fork.right)
+                    fork.left.joined(alloc, &fork.right)
                 } else {
                     let right = fork.right.with_removed(alloc, at - before - 1)?;
                     Sequence::balanced(alloc, fork.left.share()?, fork.item, right)
                 }
             }
         }
+    }
+
+    /// The items before a place, and the others. Past the end there are no others.
+    pub fn split_at(
+        &self,
+        alloc: Global,
+        at: usize,
+    ) -> Result<(Sequence<T>, Sequence<T>), AllocError>
+        ensures { IfOk result (λ s. (s.0 ≡ take at self.now) × (s.1 ≡ drop at self.now)) }
+    {
+        match &self.root {
+            Root::Leaf => Ok((Sequence::new(), Sequence::new())),
+            Root::Fork(fork) => {
+                let before = fork.left.len();
+                if at <= before {
+                    let (first, near) = fork.left.split_at(alloc, at)?;
+                    let rest = Sequence::linked(alloc, near, fork.item, fork.right.share()?)?;
+                    Ok((first, rest))
+                } else {
+                    let (near, rest) = fork.right.split_at(alloc, at - before - 1)?;
+                    let first = Sequence::linked(alloc, fork.left.share()?, fork.item, near)?;
+                    Ok((first, rest))
+                }
+            }
+        }
+    }
+
+    /// The items of this sequence and then those of another.
+    pub fn joined(&self, alloc: Global, other: &Sequence<T>) -> Result<Sequence<T>, AllocError>
+        ensures { IfOk result (λ s. s ≡ self.now ++ other.now) }
+    {
+        let left = self.share()?;
+        match other.split_first(alloc)? {
+            None => Ok(left),
+            Some((first, rest)) => Sequence::linked(alloc, left, first, rest),
+        }
+    }
+
+    /// An item so many times. Takes memory for few of them: equal parts are shared.
+    pub fn repeated(alloc: Global, item: T, count: usize) -> Result<Sequence<T>, AllocError>
+        ensures { IfOk result (λ s. s ≡ replicate count item) }
+    {
+        if count == 0 {
+            return Ok(Sequence::new());
+        }
+        let half = (count - 1) / 2;
+        let left = Sequence::repeated(alloc, item, half)?;
+        if half + half + 1 == count {
+            return Sequence::fork(alloc, left.share()?, item, left);
+        }
+        let right = left.with_inserted(alloc, 0, item)?;
+        Sequence::fork(alloc, left, item, right)
     }
 
     /// The items of a slice, in their order.
@@ -223,21 +275,6 @@ impl<T: Copy> Sequence<T> {
         }
     }
 
-    // The items of one and then those of another, whose lengths are those of the sides of a fork.
-    fn joined(
-        alloc: Global,
-        left: &Sequence<T>,
-        right: &Sequence<T>,
-    ) -> Result<Sequence<T>, AllocError>
-        ensures { IfOk result (λ s. s ≡ left.now ++ right.now) }
-    {
-        let left = left.share()?;
-        match right.split_first(alloc)? {
-            None => Ok(left),
-            Some((first, rest)) => Sequence::balanced(alloc, left, first, rest),
-        }
-    }
-
     // An item between two sides. The lengths may not be more than a number of the machine.
     fn fork(
         alloc: Global,
@@ -261,6 +298,58 @@ impl<T: Copy> Sequence<T> {
         };
         let root = Root::Fork(Rc::new(alloc, fork)?);
         Ok(Sequence { root })
+    }
+
+    // An item between two sequences of any lengths.
+    fn linked(
+        alloc: Global,
+        left: Sequence<T>,
+        item: T,
+        right: Sequence<T>,
+    ) -> Result<Sequence<T>, AllocError>
+        ensures { IfOk result (λ s. s ≡ left ++ item ∷ right) }
+    {
+        if right.len() > left.len().saturating_mul(3) {
+            Sequence::put_first(alloc, left, item, &right)
+        } else {
+            Sequence::put_last(alloc, &left, item, right)
+        }
+    }
+
+    // Puts a sequence and an item before another, in its first part that is not much longer.
+    fn put_first(
+        alloc: Global,
+        left: Sequence<T>,
+        item: T,
+        right: &Sequence<T>,
+    ) -> Result<Sequence<T>, AllocError>
+        ensures { IfOk result (λ s. s ≡ left ++ item ∷ right.now) }
+    {
+        match &right.root {
+            Root::Fork(fork) if right.len() > left.len().saturating_mul(3) => {
+                let near = Sequence::put_first(alloc, left, item, &fork.left)?;
+                Sequence::balanced(alloc, near, fork.item, fork.right.share()?)
+            }
+            _ => Sequence::fork(alloc, left, item, right.share()?),
+        }
+    }
+
+    // Puts an item and a sequence after another, in its last part that is not much longer.
+    fn put_last(
+        alloc: Global,
+        left: &Sequence<T>,
+        item: T,
+        right: Sequence<T>,
+    ) -> Result<Sequence<T>, AllocError>
+        ensures { IfOk result (λ s. s ≡ left.now ++ item ∷ right) }
+    {
+        match &left.root {
+            Root::Fork(fork) if left.len() > right.len().saturating_mul(3) => {
+                let near = Sequence::put_last(alloc, &fork.right, item, right)?;
+                Sequence::balanced(alloc, fork.left.share()?, fork.item, near)
+            }
+            _ => Sequence::fork(alloc, left.share()?, item, right),
+        }
     }
 
     // An item between two sides of which one may have got an item too many, or lost one. No side of what results has more than three
@@ -364,6 +453,24 @@ impl<T: Copy + Keyed> Sequence<T> {
                     Ok(at) => Ok(fork.len - (after - at)),
                     Err(at) => Err(fork.len - (after - at)),
                 }
+            }
+        }
+    }
+
+    /// How many items have a key below a number, among items whose keys do not fall. Of others it gives some number of items.
+    pub fn count_below(&self, key: u64) -> usize
+        ensures within { result ≤ length self.now }
+        ensures count { IsAscending (map T.key_of self.now) → result ≡ below key (map T.key_of self.now) }
+    {
+        match &self.root {
+            Root::Leaf => 0,
+            Root::Fork(fork) => {
+                if key <= fork.item.key() {
+                    return fork.left.count_below(key);
+                }
+                // Counted back from the end, where no sum can be too large.
+                let after = fork.right.len();
+                fork.len - (after - fork.right.count_below(key))
             }
         }
     }

@@ -1,7 +1,7 @@
 -- Two starts.
 use Rattle.std.proofs.Common.{◌≡◌, ℕ, ◌≤◌, Bool, true, false, cond, List, [], ◌∷◌, ◌++◌, length, inr, refl, sym, ap, subst, ◌∙◌, arith, eqb, lit<}
 use Rattle.std.specs.Prelude.{◌-◌, replicate, slice_index, unwrap_or, Option, None}
-use Rattle.std.specs.FinSet as sets
+use Rattle.numbers.specs.Sets as sets
 use Rattle.target_code.specs.declared.tree.Rep.TheVariants as rep
 use Rattle.target_meaning.specs.Leaf.{Stack, Run, End}
 use Rattle.target_meaning.specs.Machine.{Never, Live, no_blocks, with_blocks}

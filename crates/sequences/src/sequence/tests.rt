@@ -75,3 +75,58 @@ fn trees_stay_flat(rt: HostRuntime) -> Result<(), Fail> {
     assert_eq!(rt; left.get(500), Some(499));
     Ok(())
 }
+
+#[test]
+fn parts_are_put_together_anew(rt: HostRuntime) -> Result<(), Fail> {
+    let alloc = rt.alloc();
+    let numbers = Sequence::from_slice(alloc, &[3u64, 5, 7, 9])?;
+    let (left, right) = numbers.split_at(alloc, 1)?;
+    assert_eq!(rt; left.to_vec(alloc)?.as_slice(), [3].as_slice());
+    assert_eq!(rt; right.to_vec(alloc)?.as_slice(), [5, 7, 9].as_slice());
+    let turned = right.joined(alloc, &left)?;
+    assert_eq!(rt; turned.to_vec(alloc)?.as_slice(), [5, 7, 9, 3].as_slice());
+    let same = Sequence::repeated(alloc, 6u64, 3)?;
+    assert_eq!(rt; same.to_vec(alloc)?.as_slice(), [6, 6, 6].as_slice());
+    assert_eq!(rt; numbers.to_vec(alloc)?.as_slice(), [3, 5, 7, 9].as_slice());
+    Ok(())
+}
+
+#[test]
+fn keys_below_are_counted(rt: HostRuntime) -> Result<(), Fail> {
+    let pairs = Sequence::from_slice(rt.alloc(), &[(2u64, 9u64), (4, 8), (4, 7)])?;
+    for (key, count) in [(0, 0), (2, 0), (3, 1), (4, 1), (5, 3)] {
+        assert_eq!(rt; pairs.count_below(key), count, "at {key}");
+    }
+    Ok(())
+}
+
+/// How many items a long sequence has.
+fn many() -> usize {
+    50_000
+}
+
+#[test]
+fn parts_stay_flat(rt: HostRuntime) -> Result<(), Fail> {
+    let alloc = rt.alloc();
+    let mut items = Sequence::repeated(alloc, 1u64, many())?;
+    assert!(rt; depth(&items) <= 17);
+    for place in 0..2_000 {
+        let (left, right) = items.split_at(alloc, 20 * place)?;
+        items = right.joined(alloc, &left)?;
+    }
+    assert_eq!(rt; items.len(), many());
+    assert!(rt; depth(&items) <= 36);
+    let few = Sequence::from_slice(alloc, &[2u64, 3, 4])?;
+    let mut before = Sequence::new();
+    let mut after = Sequence::new();
+    for _ in 0..3_000 {
+        before = few.joined(alloc, &before)?;
+        after = after.joined(alloc, &few)?;
+    }
+    assert!(rt; depth(&before) <= 30);
+    assert!(rt; depth(&after) <= 30);
+    assert!(rt; depth(&few.joined(alloc, &items)?) <= 36);
+    assert!(rt; depth(&items.joined(alloc, &few)?) <= 36);
+    assert_eq!(rt; after.get(8_999), Some(4));
+    Ok(())
+}

@@ -1,5 +1,5 @@
 use Rattle.std.proofs.Common.{ap, ◌∙◌, sym, take}
-use Rattle.nres_core.proofs.Containers.{bag_pushed}
+use Rattle.nres_syntax.proofs.Multisets.{bag_pushed}
 use Rattle.nres_syntax.proofs.Values as values
 use Rattle.nres_syntax.proofs.value.bag_with.Goals as goal
 

@@ -1,7 +1,7 @@
 use Rattle.std.proofs.Common.{rules, arith, ℕ, ◌≡◌, ◌<◌, ◌≤◌, ◌-◌, ◌+◌, [], ◌∷◌, ◌++◌, length, cond, true, false, ap, ◌∙◌, sym, refl, subst}
 use Rattle.std.specs.FinMap as maps
 use Rattle.std.specs.FinSet as sets
-use Rattle.nres_core.specs.Bag.{bag_of}
+use Rattle.numbers.specs.Bag.{bag_of}
 use Rattle.nres_core.specs.Texts.{put_all}
 use Rattle.nres_core.specs.declared.value.Value.TheVariants as v
 use Rattle.nres_machine.specs.Cursor.{left}
@@ -16,4 +16,6 @@ pub returns-in_err-found-clause-reads : goal.returns-in_err-found-clause-reads
 returns-in_err-found-clause-reads c = exits _ _ _ c.from_residual.ensures.1 (λ n k. c.in_err-found.ensures.reads n (λ ns. k (v.List ns)))
 
 pub returns-clause-reads : goal.returns-clause-reads
-returns-clause-reads c = λ k. c.in_ok-found.ensures.reads (λ ns. k (v.List ns))
+returns-clause-reads c = λ k.
+    let e = c.in_ok-list.ensures in let f = c.as_slice.ensures in
+    rw (e, f) (c.in_ok-found.ensures.reads (λ ns. k (v.List ns)))

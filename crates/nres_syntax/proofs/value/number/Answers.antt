@@ -1,7 +1,7 @@
 use Rattle.std.proofs.Common.{rules, arith, ℕ, ◌≡◌, ◌<◌, ◌≤◌, ◌-◌, ◌+◌, [], ◌∷◌, ◌++◌, length, cond, true, false, ap, ◌∙◌, sym, refl, subst}
 use Rattle.std.specs.FinMap as maps
 use Rattle.std.specs.FinSet as sets
-use Rattle.nres_core.specs.Bag.{bag_of}
+use Rattle.numbers.specs.Bag.{bag_of}
 use Rattle.nres_core.specs.Texts.{put_all}
 use Rattle.nres_core.specs.declared.value.Value.TheVariants as v
 use Rattle.nres_machine.specs.Cursor.{left}

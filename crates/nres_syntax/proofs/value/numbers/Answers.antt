@@ -1,7 +1,7 @@
 use Rattle.std.proofs.Common.{rules, arith, ℕ, ◌≡◌, ◌<◌, ◌≤◌, ◌-◌, ◌+◌, [], ◌∷◌, ◌++◌, length, cond, true, false, ap, ◌∙◌, sym, refl, subst}
 use Rattle.std.specs.FinMap as maps
 use Rattle.std.specs.FinSet as sets
-use Rattle.nres_core.specs.Bag.{bag_of}
+use Rattle.numbers.specs.Bag.{bag_of}
 use Rattle.nres_core.specs.Texts.{put_all}
 use Rattle.nres_core.specs.declared.value.Value.TheVariants as v
 use Rattle.nres_machine.specs.Cursor.{left}
@@ -21,13 +21,13 @@ returns-in_err-goes_on-clause-reads c = exits _ _ _ c.from_residual-in_err-goes_
 
 pub returns-then-not-goes_on-clause-reads : goal.returns-then-not-goes_on-clause-reads
 returns-then-not-goes_on-clause-reads c = λ k.
-    let e = c.in_ok-add.ensures.added in
+    let e = c.in_ok-push.ensures.ok in
     rw e (c.each.invariant.reads k then values.numbers_is_number then c.in_ok-found.ensures.reads _ then c.in_ok-goes_on.ensures.reads (λ b. cond b (numbers c.args.close (c.each.all ++ c.in_ok-found.found ∷ []) k) (k (c.each.all ++ c.in_ok-found.found ∷ []))) then going.end_came _ c.if-not-goes_on.true)
 
 pub each-preserved : goal.each-preserved
 each-preserved c = record {
   shorter = omega (arith, c.each.invariant.shorter, c.in_ok-found.ensures.shorter, c.in_ok-goes_on.ensures.shorter);
   reads = λ k.
-      let e = c.in_ok-add.ensures.added in
+      let e = c.in_ok-push.ensures.ok in
       rw e (c.each.invariant.reads k then values.numbers_is_number then c.in_ok-found.ensures.reads _ then c.in_ok-goes_on.ensures.reads (λ b. cond b (numbers c.args.close (c.each.all ++ c.in_ok-found.found ∷ []) k) (k (c.each.all ++ c.in_ok-found.found ∷ []))) then going.more_came _ c.if-not-goes_on.false);
 }

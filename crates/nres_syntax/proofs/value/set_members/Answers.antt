@@ -1,7 +1,7 @@
 use Rattle.std.proofs.Common.{rules, arith, ℕ, ◌≡◌, ◌<◌, ◌≤◌, ◌-◌, ◌+◌, [], ◌∷◌, ◌++◌, length, cond, true, false, ap, ◌∙◌, sym, refl, subst}
 use Rattle.std.specs.FinMap as maps
 use Rattle.std.specs.FinSet as sets
-use Rattle.nres_core.specs.Bag.{bag_of}
+use Rattle.numbers.specs.Bag.{bag_of}
 use Rattle.nres_core.specs.Texts.{put_all}
 use Rattle.nres_core.specs.declared.value.Value.TheVariants as v
 use Rattle.nres_machine.specs.Cursor.{left}
@@ -17,10 +17,10 @@ returns-in_err-goes_on-clause-reads c = exits _ _ _ c.from_residual-in_err-goes_
 
 pub returns-then-not-goes_on-clause-reads : goal.returns-then-not-goes_on-clause-reads
 returns-then-not-goes_on-clause-reads c = λ k.
-    let e = c.in_ok-add.ensures.added in let f = c.new-all.ensures in
+    let e = c.in_ok-push.ensures.ok in let f = c.new-all.ensures in
     rw (e, f) (c.in_ok-goes_on.ensures.reads (λ b. cond b (numbers fixed.CloseBrace (c.args.first ∷ []) k) (k (c.args.first ∷ []))) then going.end_came _ c.if-not-goes_on.true)
 
 pub returns-clause-reads : goal.returns-clause-reads
-returns-clause-reads c = passes (numbers fixed.CloseBrace c.add.new.self) _ _ (λ k. k)
+returns-clause-reads c = passes (numbers fixed.CloseBrace c.push.new.self) _ _ (λ k. k)
     (λ k. c.in_ok-goes_on.ensures.reads (λ b. cond b (numbers fixed.CloseBrace (c.args.first ∷ []) k) (k (c.args.first ∷ []))) then going.more_came _ c.if-not-goes_on.false
-    then values.numbers_as (c.in_ok-add.ensures.added ∙ ap (λ ns. ns ++ c.args.first ∷ []) c.new-all.ensures)) (λ y k. going.stay) c.numbers.ensures.reads
+    then values.numbers_as (c.in_ok-push.ensures.ok ∙ ap (λ ns. ns ++ c.args.first ∷ []) c.new-all.ensures)) (λ y k. going.stay) c.numbers.ensures.reads

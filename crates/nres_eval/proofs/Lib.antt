@@ -1,0 +1,9 @@
+pub mod Between
+pub mod Bodies
+pub mod Calls
+pub mod Depths
+pub mod Environments
+pub mod Exprs
+pub mod Loops
+pub mod Paths
+pub mod Procs

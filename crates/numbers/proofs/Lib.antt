@@ -1,0 +1,4 @@
+pub mod BagsOfAscending
+pub mod MapsOfRising
+pub mod SetItems
+pub mod SetsOfRising

@@ -1,0 +1,3 @@
+pub mod Bag
+pub mod Rising
+pub mod Sets
