@@ -1,4 +1,5 @@
 pub mod Cuts
-pub mod Tops
+pub mod Firsts
 pub mod Names
 pub mod Told
+pub mod Tops

@@ -1,115 +1,137 @@
--- How a text is told.
-use Rattle.std.proofs.Common.{◌≡◌, ◌≢◌, ◌⊎◌, inl, inr, ℕ, ◌≤◌, ◌+◌, true, List, length, Option, Some, None, Result, Ok, Err, IfOk, IfErr, IfSome, ◌++◌, append-nil, refl, ap, ◌∙◌, sym, subst, arith}
+-- Whatever the text, it is told.
+use Rattle.std.proofs.Common.{◌≡◌, ◌≢◌, ◌⊎◌, inl, inr, ℕ, ◌≤◌, ◌+◌, List, length, Option, Some, None, Result, Ok, Err, ◌++◌, append-nil, refl, ap, ◌∙◌, sym, subst, arith}
 use Rattle.std.proofs.lemmas.List.{length-append}
 use Rattle.std.specs.Io.KnownBytes.{Consumes, IsAtEnd}
 use Rattle.sep_io.specs.Faults.{Gave}
-use Rattle.nres_core.specs.Texts.{SpecText}
+use Rattle.sep_lex.proofs.One as one
+use Rattle.nres_core.specs.Texts.{IsFile, SpecText, open_at_once, operators}
+use Rattle.nres_core.specs.Tokens.{first}
+use Rattle.nres_core.specs.Types.{Wrong, Unbound, Mismatch, Arity, No_operation, Duplicate, Other_rep, refusal_of}
+use Rattle.nres_core.specs.Words.{all_seen}
 use Rattle.nres_core.specs.declared.place.Place.{Place}
 use Rattle.nres_core.specs.declared.tree.Spec.{Spec}
 use Rattle.nres_core.specs.declared.tree.With.{With}
+use Rattle.nres_machine.proofs.CompleteTexts as complete
+use Rattle.nres_machine.specs.Machine.{accepted, specification}
 use Rattle.nres_machine.specs.declared.refusal.SyntaxRefusal.{SyntaxRefusal}
 use Rattle.nres_machine.specs.declared.refusal.SyntaxRefusal.TheVariants as refusal
-use Rattle.nres_core.specs.Types.{Wrong, Unbound, Mismatch, Arity, No_operation, Duplicate, Other_rep, refusal_of}
 use Rattle.nres_types.specs.declared.refusal.TypeRefusal.{TypeRefusal}
 use Rattle.nres_types.specs.declared.refusal.TypeRefusal.TheVariants as e
-use Rattle.smallest_form.specs.Smallest.{IsSmallest}
-use Rattle.smallest_form.proofs.Right.{shaped}
-use Rattle.sepref_top.specs.Faults.{IsFault, IsRefused}
-use Rattle.sepref_top.specs.declared.synthesis.Unserved.{Unserved}
-use Rattle.sepref_top.specs.declared.synthesis.Unserved.TheVariants as unserved
-use Rattle.sepref_top.specs.TypeLines.{refusal_line, type_line}
+use Rattle.sepref_top.specs.Answers.{Answers, AnswersExecution, AnswersSpec, HasFault, IsNone, Serves, TellsFault, Told, ToldBy, ToldExecution, Typed}
+use Rattle.sepref_top.specs.Faults.{IsRefused}
 use Rattle.sepref_top.specs.Outcome.{AnswersUnlessLost}
-use Rattle.sepref_top.specs.Statuses.{HasFailed, HasFixedLine, TellsPlace}
-use Rattle.nres_types.specs.Wholes.{IsTold}
-use Rattle.sepref_top.specs.Synthesis.{GaveText, Gives, IsTyped, HasFault, IsNone, IsOther, IsServed, IsUntyped, Serves, Told, ToldBy, ToldExecution}
-use Rattle.sepref_top.specs.Executions.{IsExecution, NoValuesAt, front_of}
-use Rattle.target_code.specs.declared.tree.Program.{Program}
-use Rattle.target_text.specs.Refusals.{RefusedAt}
-use Rattle.sepref_top.specs.declared.words.Command.{Command}
-use Rattle.sepref_top.specs.declared.words.Command.TheVariants as command
+use Rattle.sepref_top.specs.Statuses.{HasFailed, HasFixedLine, TellsPlace, TellsText}
+use Rattle.sepref_top.specs.TypeLines.{refusal_line}
 use Rattle.sepref_top.specs.declared.status.Status.{Status}
 use Rattle.sepref_top.specs.declared.status.Status.TheVariants as status
+use Rattle.sepref_top.specs.declared.words.Command.{Command}
+use Rattle.sepref_top.specs.declared.words.Command.TheVariants as command
 
--- ---- what was read
+-- ---- a text has one tree
 
--- a reader gives the one tree that a text has, unless there is no memory
-abbrev Only : List ℕ → Result (Spec × List With) SyntaxRefusal → Type 0
-Only text r = (p : Spec) (ws : List With) → SpecText text p ws → r ≢ Err refusal.Memory → r ≡ Ok (p, ws)
+pub one_tree : (text : List ℕ) (p q : Spec) (ws vs : List With) → SpecText text p ws → SpecText text q vs → (p ≡ q) × (ws ≡ vs)
+one_tree text p q ws vs s t =
+    let same = one.one s.1 t.0 t.1 in
+    let is_file : IsFile operators open_at_once (all_seen text s.0) q vs = subst (λ ts. IsFile operators open_at_once (all_seen text ts) q vs) (sym same) t.2 in
+    let here = complete.accepts first operators open_at_once (all_seen text s.0) p ws s.2 in
+    let there = complete.accepts first operators open_at_once (all_seen text s.0) q vs is_file in
+    let e : accepted (specification p ws) ≡ accepted (specification q vs) = sym here ∙ there in
+    (cc, cc)
 
--- what is refused has no tree
-pub at_is_none : {text : List ℕ} (r : Result (Spec × List With) SyntaxRefusal) (q : Place) → Only text r → r ≡ Err (refusal.At q) → IsNone text
-at_is_none r q only e p ws t =
-    let f : r ≡ Ok (p, ws) = only p ws t (λ i. let g : Err (refusal.At q) ≡ Err refusal.Memory = sym e ∙ i in absurd cc) in
-    let g : Err (refusal.At q) ≡ Ok (p, ws) = sym e ∙ f in
-    absurd cc
+-- ---- texts of specifications
 
-pub deep_is_none : {text : List ℕ} (r : Result (Spec × List With) SyntaxRefusal) (q : Place) → Only text r → r ≡ Err (refusal.TooDeep q) → IsNone text
-deep_is_none r q only e p ws t =
-    let f : r ≡ Ok (p, ws) = only p ws t (λ i. let g : Err (refusal.TooDeep q) ≡ Err refusal.Memory = sym e ∙ i in absurd cc) in
-    let g : Err (refusal.TooDeep q) ≡ Ok (p, ws) = sym e ∙ f in
-    absurd cc
+of_typed : (c : Command) (text : List ℕ) (s : Status) (output : List ℕ) → Typed (λ p ws. Serves c p ws s output) text → Told c text s
+of_typed c text s output t = record {
+  typed = λ p ws r ty.
+      let same = one_tree text t.spec p t.withs ws t.reads r in
+      inl (output, subst (λ q. Serves c q ws s output) same.0 (subst (λ vs. Serves c t.spec vs s output) same.1 t.holds));
+  untyped = λ w h.
+      let same = one_tree text t.spec h.spec t.withs h.withs t.reads h.reads in
+      let e : None ≡ Some w = sym t.typed ∙ ap refusal_of same.0 ∙ h.first in
+      absurd cc;
+  none = λ n. absurd (n t.spec t.withs t.reads);
+}
 
--- what is read is the tree
-pub is_read : {text : List ℕ} (r : Result (Spec × List With) SyntaxRefusal) (y : Spec × List With) → Only text r → r ≡ Ok y → (p : Spec) (ws : List With) → SpecText text p ws → p ≡ y.0
-is_read r y only e p ws t =
-    let f : r ≡ Ok (p, ws) = only p ws t (λ i. let g : Ok y ≡ Err refusal.Memory = sym e ∙ i in absurd cc) in
-    let g : Ok y ≡ Ok (p, ws) = sym e ∙ f in
-    cc
+of_none : (c : Command) (text : List ℕ) (q : Place) (s : Status) → (s ≡ status.Syntax q) ⊎ (s ≡ status.TooDeep q) → IsNone text → Told c text s
+of_none c text q s m n = record {
+  typed = λ p ws r ty. absurd (n p ws r);
+  untyped = λ w h. absurd (n h.spec h.withs h.reads);
+  none = λ k. elim m [ inl i ↦ subst (λ x. TellsPlace x ⊎ HasFailed x) (sym i) (inl tt) | inr i ↦ subst (λ x. TellsPlace x ⊎ HasFailed x) (sym i) (inl tt) ];
+}
 
-pub is_printed : {A : Type 0} {E : Type 0} (P : A → Type 0) (r : Result (Option A) E) (y : A) → IfOk r (λ found. IfSome found P) → r ≡ Ok (Some y) → P y
-is_printed P r y h e = subst (λ x. IfOk x (λ found. IfSome found P)) e h
+of_fault : (c : Command) (text : List ℕ) (w : Wrong) → HasFault text w → Told c text status.Type_
+of_fault c text w h = record {
+  typed = λ p ws r ty.
+      let same = one_tree text h.spec p h.withs ws h.reads r in
+      let e : Some w ≡ None = sym h.first ∙ ap refusal_of same.0 ∙ ty in
+      absurd cc;
+  untyped = λ v g. inl refl;
+  none = λ n. absurd (n h.spec h.withs h.reads);
+}
 
--- what went well did not fail in either way
-pub no_failure : {A E : Type 0} (r : Result A E) (y : A) (e f : E) → r ≡ Ok y → (r ≡ Err e) ⊎ (r ≡ Err f) → ⊥
-no_failure r y e f i (inl j) = let k : Ok y ≡ Err e = sym i ∙ j in cc
-no_failure r y e f i (inr j) = let k : Ok y ≡ Err f = sym i ∙ j in cc
+of_spec : (c : Command) (text : List ℕ) (s : Status) (output : List ℕ) → TellsText s → AnswersSpec c text s output → Told c text s
+of_spec c text (status.Syntax q) output h a = of_none c text q _ (inl refl) a.none
+of_spec c text (status.TooDeep q) output h a = of_none c text q _ (inr refl) a.none
+of_spec c text status.Type_ output h a = of_fault c text a.fault a.is_first
+of_spec c text status.Done output h a = of_typed c text _ output a
+of_spec c text status.Input output h a = of_typed c text _ output a
+of_spec c text (status.NotProgram k) output h a = of_typed c text _ output a
+of_spec c text (status.Fails l) output h a = of_typed c text _ output a
+of_spec c text (status.OutOfTurns l) output h a = of_typed c text _ output a
+of_spec c text status.NotYet output h a = of_typed c text _ output a
+of_spec c text status.Usage output h a = absurd h
+of_spec c text status.TooLong output h a = absurd h
+of_spec c text status.ReadFault output h a = absurd h
+of_spec c text status.WriteFault output h a = absurd h
+of_spec c text status.Memory output h a = absurd h
 
-pub only_failure : {A E : Type 0} (r : Result A E) (e f : E) → r ≡ Err e → IfErr r (λ x. x ≡ f) → e ≡ f
-only_failure r e f i h = subst (λ x. IfErr x (λ y. y ≡ f)) i h
+-- ---- executions
 
--- of an answer that has two forms, where the other is known
-pub is_memory : {A E : Type 0} (r : Result A E) (x : A) (y m : E) → r ≡ Err y → (r ≡ Ok x) ⊎ (r ≡ Err m) → y ≡ m
-is_memory r x y m e (inl h) = let k : Err y ≡ Ok x = sym e ∙ h in absurd cc
-is_memory r x y m e (inr h) = let k : Err y ≡ Err m = sym e ∙ h in cc
+of_execution : (text : List ℕ) (s : Status) (output : List ℕ) → TellsText s → AnswersExecution text s output → ToldExecution text s
+of_execution text (status.NotProgram k) output h a = record {
+  no_program = λ n. inl tt;
+  no_values = λ t p n. absurd (a.refused.no_text t p.formed p.is_text);
+  other = λ t ws i. absurd (a.refused.no_text t i.program.formed i.program.is_text);
+}
+of_execution text (status.Syntax q) output h a = record {
+  no_program = λ n. absurd (n a.refused.tree a.refused.program);
+  no_values = λ t p n. inl tt;
+  other = λ t ws i. absurd (a.refused.none ws i.values);
+}
+of_execution text status.NotYet output h a = record {
+  no_program = λ n. absurd (n a.program a.reads.program);
+  no_values = λ u p n. absurd (n a.withs a.reads.values);
+  other = λ u vs j. inl refl;
+}
+of_execution text status.Done output h a = absurd a
+of_execution text (status.TooDeep q) output h a = absurd a
+of_execution text status.Type_ output h a = absurd a
+of_execution text status.Input output h a = absurd a
+of_execution text (status.Fails l) output h a = absurd a
+of_execution text (status.OutOfTurns l) output h a = absurd a
+of_execution text status.Usage output h a = absurd h
+of_execution text status.TooLong output h a = absurd h
+of_execution text status.ReadFault output h a = absurd h
+of_execution text status.WriteFault output h a = absurd h
+of_execution text status.Memory output h a = absurd h
 
-pub is_same : {A E : Type 0} (r : Result A E) (x y : A) (m : E) → r ≡ Ok y → (r ≡ Ok x) ⊎ (r ≡ Err m) → x ≡ y
-is_same r x y m e (inl h) = let k : Ok y ≡ Ok x = sym e ∙ h in cc
-is_same r x y m e (inr h) = let k : Ok y ≡ Err m = sym e ∙ h in absurd cc
+-- ---- by command
 
-pub either_failure : {A E : Type 0} (r : Result A E) (y e f : E) → r ≡ Err y → (r ≡ Err e) ⊎ (r ≡ Err f) → (y ≡ e) ⊎ (y ≡ f)
-either_failure r y e f i (inl h) = let k : Err y ≡ Err e = sym i ∙ h in inl cc
-either_failure r y e f i (inr h) = let k : Err y ≡ Err f = sym i ∙ h in inr cc
+pub told : (c : Command) (text : List ℕ) (s : Status) (output : List ℕ) → TellsText s → Answers c text s output → ToldBy c text s
+told command.Check text s output h a = of_spec command.Check text s output h a
+told command.Synth text s output h a = of_spec command.Synth text s output h a
+told command.Eval text s output h a = of_spec command.Eval text s output h a
+told command.Run text s output h a = of_spec command.Run text s output h a
+told command.Exec text s output h a = of_execution text s output h a
 
--- ---- types
-
--- what is served is typed
-pub small_is_typed : (p : Spec) → IsSmallest p → refusal_of p ≡ None
-small_is_typed p s = (shaped p s.0 s.1).1.typed.nothing_refused
-
--- ---- how it is told
-
-pub failed : {c : Command} {text : List ℕ} (s : Status) → HasFailed s → Told c text s
-failed s h = record { served = λ t. inr h; untyped = λ t. inr h; other = λ t. inr h; none = λ t. inr h }
-
-pub done : {c : Command} {text : List ℕ} → (p : Spec) (ws : List With) → SpecText text p ws → ¬ IsOther c text → ¬ IsUntyped text → Told c text status.Done
-done p ws t n m = record { served = λ u. inl refl; untyped = λ u. absurd (m u); other = λ u. absurd (n u); none = λ u. absurd (u p ws t) }
-
-pub not_yet : {c : Command} {text : List ℕ} → IsOther c text → ¬ IsServed c text → ¬ IsUntyped text → Told c text status.NotYet
-not_yet o n m = record { served = λ u. absurd (n u); untyped = λ u. absurd (m u); other = λ u. inl refl; none = λ u. absurd (u o.spec o.withs o.reads) }
-
-pub untyped : {c : Command} {text : List ℕ} (p : Spec) (ws : List With) → SpecText text p ws → ¬ IsServed c text → ¬ IsOther c text → Told c text status.Type_
-untyped p ws t n m = record { served = λ v. absurd (n v); untyped = λ v. inl refl; other = λ v. absurd (m v); none = λ v. absurd (v p ws t) }
-
-pub at_place : {c : Command} {text : List ℕ} (s : Status) → TellsPlace s → ¬ IsServed c text → ¬ IsOther c text → ¬ IsUntyped text → Told c text s
-at_place s h m n o = record { served = λ u. absurd (m u); untyped = λ u. absurd (o u); other = λ u. absurd (n u); none = λ u. inl h }
-
--- by command
+failed : (c : Command) (text : List ℕ) (s : Status) → HasFailed s → Told c text s
+failed c text s h = record { typed = λ p ws r t. inr h; untyped = λ w f. inr h; none = λ n. inr h }
 
 pub failed_by : (c : Command) (text : List ℕ) (s : Status) → HasFailed s → ToldBy c text s
-failed_by command.Check text s h = failed s h
-failed_by command.Synth text s h = failed s h
-failed_by command.Eval text s h = failed s h
-failed_by command.Run text s h = failed s h
+failed_by command.Check text s h = failed command.Check text s h
+failed_by command.Synth text s h = failed command.Synth text s h
+failed_by command.Eval text s h = failed command.Eval text s h
+failed_by command.Run text s h = failed command.Run text s h
 failed_by command.Exec text s h = record { no_program = λ n. inr h; no_values = λ t p n. inr h; other = λ t ws i. inr h }
 
 pub unless_lost : (c : Command) (text : List ℕ) (s r : Status) → AnswersUnlessLost s r → ToldBy c text s → ToldBy c text r
@@ -117,83 +139,50 @@ unless_lost c text s r (inl e) t = subst (λ x. ToldBy c text x) (sym e) t
 unless_lost c text s r (inr e) t = subst (λ x. ToldBy c text x) (sym e) (failed_by c text status.WriteFault tt)
 
 -- what is answered without an output
-pub apart : (c : Command) (text : List ℕ) (s : Status) → (s ≡ status.Memory) ⊎ HasFixedLine s
-    → ¬ (s ≡ status.Usage) → ¬ (s ≡ status.TooLong) → (s ≡ status.NotYet → ToldBy c text s) → ToldBy c text s
-apart c text status.Memory h u l n = failed_by c text status.Memory tt
-apart c text status.ReadFault h u l n = failed_by c text status.ReadFault tt
+pub apart : (c : Command) (text : List ℕ) (s : Status) → HasFixedLine s → ¬ (s ≡ status.Usage) → ¬ (s ≡ status.TooLong) → (TellsText s → ToldBy c text s) → ToldBy c text s
 apart c text status.Usage h u l n = absurd (u refl)
 apart c text status.TooLong h u l n = absurd (l refl)
-apart c text status.NotYet h u l n = n refl
-apart c text status.WriteFault h u l n = failed_by c text status.WriteFault tt
-apart c text status.Done (inl e) u l n = absurd cc
-apart c text status.Done (inr e) u l n = absurd e
-apart c text (status.Syntax p) (inl e) u l n = absurd cc
-apart c text (status.Syntax p) (inr e) u l n = absurd e
-apart c text (status.TooDeep p) (inl e) u l n = absurd cc
-apart c text (status.TooDeep p) (inr e) u l n = absurd e
-apart c text (status.NotProgram k) (inl e) u l n = absurd cc
-apart c text (status.NotProgram k) (inr e) u l n = absurd e
-apart c text status.Type_ (inl e) u l n = absurd cc
-apart c text status.Type_ (inr e) u l n = absurd e
+apart c text status.ReadFault h u l n = failed_by c text status.ReadFault tt
+apart c text status.Memory h u l n = failed_by c text status.Memory tt
+apart c text status.NotYet h u l n = n tt
+apart c text status.Done h u l n = absurd h
+apart c text (status.Syntax q) h u l n = absurd h
+apart c text (status.TooDeep q) h u l n = absurd h
+apart c text status.Type_ h u l n = absurd h
+apart c text status.Input h u l n = absurd h
+apart c text (status.NotProgram k) h u l n = absurd h
+apart c text (status.Fails k) h u l n = absurd h
+apart c text (status.OutOfTurns k) h u l n = absurd h
+apart c text status.WriteFault h u l n = absurd h
 
--- ---- executions
+-- ---- what is read is told by the reader
 
-pub a_line : {text : List ℕ} (k : ℕ) → RefusedAt (front_of true text) k → ToldExecution text (status.NotProgram k)
-a_line k r = record {
-  no_program = λ n. inl tt;
-  no_values = λ t p n. absurd (r.no_text t p.formed p.is_text);
-  other = λ t ws i. absurd (r.no_text t i.program.formed i.program.is_text);
-}
+-- a reader gives the one tree that a text has, unless there is no memory
+abbrev Only : List ℕ → Result (Spec × List With) SyntaxRefusal → Type 0
+Only text r = (p : Spec) (ws : List With) → SpecText text p ws → r ≢ Err refusal.Memory → r ≡ Ok (p, ws)
 
-pub a_place : {text : List ℕ} (q : Place) → NoValuesAt text q → ToldExecution text (status.Syntax q)
-a_place q r = record { no_program = λ n. absurd (n r.tree r.program); no_values = λ t p n. inl tt; other = λ t ws i. absurd (r.none ws i.values) }
+-- what is refused has no tree
+pub at_is_none : (text : List ℕ) (r : Result (Spec × List With) SyntaxRefusal) (q : Place) → Only text r → r ≡ Err (refusal.At q) → IsNone text
+at_is_none text r q only i p ws t =
+    let f : r ≡ Ok (p, ws) = only p ws t (λ j. let g : ◌≡◌ {A = Result (Spec × List With) SyntaxRefusal} (Err (refusal.At q)) (Err refusal.Memory) = sym i ∙ j in absurd cc) in
+    let g : ◌≡◌ {A = Result (Spec × List With) SyntaxRefusal} (Err (refusal.At q)) (Ok (p, ws)) = sym i ∙ f in
+    absurd cc
 
-pub an_execution : {text : List ℕ} (t : Program) (ws : List With) → IsExecution text t ws → ToldExecution text status.NotYet
-an_execution t ws i = record { no_program = λ n. absurd (n t i.program); no_values = λ u p n. absurd (n ws i.values); other = λ u vs j. inl refl }
+pub deep_is_none : (text : List ℕ) (r : Result (Spec × List With) SyntaxRefusal) (q : Place) → Only text r → r ≡ Err (refusal.TooDeep q) → IsNone text
+deep_is_none text r q only i p ws t =
+    let f : r ≡ Ok (p, ws) = only p ws t (λ j. let g : ◌≡◌ {A = Result (Spec × List With) SyntaxRefusal} (Err (refusal.TooDeep q)) (Err refusal.Memory) = sym i ∙ j in absurd cc) in
+    let g : ◌≡◌ {A = Result (Spec × List With) SyntaxRefusal} (Err (refusal.TooDeep q)) (Ok (p, ws)) = sym i ∙ f in
+    absurd cc
 
--- ---- why it is told so
-
-pub serves_typed : (c : Command) (p : Spec) → Serves c p → refusal_of p ≡ None
-serves_typed command.Check p s = small_is_typed p s
-serves_typed command.Synth p s = small_is_typed p s
-serves_typed command.Eval p s = absurd s
-serves_typed command.Run p s = absurd s
-serves_typed command.Exec p s = absurd s
-
--- a refusal that tells a rule is one of a specification that is not typed
-pub told_is_none : (r : TypeRefusal) (w : Option Wrong) → IsTold r w → r ≢ e.Memory → w ≡ None → ⊥
-told_is_none (e.Unbound p x) w h n i = let k : Some (Unbound p x) ≡ None = sym h ∙ i in cc
-told_is_none (e.Mismatch p u v) w h n i = let k : Some (Mismatch p u v) ≡ None = sym h ∙ i in cc
-told_is_none (e.Arity p u v) w h n i = let k : Some (Arity p u v) ≡ None = sym h ∙ i in cc
-told_is_none (e.NoOperation p x u) w h n i = let k : Some (No_operation p x u) ≡ None = sym h ∙ i in cc
-told_is_none (e.Duplicate p x) w h n i = let k : Some (Duplicate p x) ≡ None = sym h ∙ i in cc
-told_is_none (e.OtherRep p x) w h n i = let k : Some (Other_rep p x) ≡ None = sym h ∙ i in cc
-told_is_none e.Memory w h n i = absurd (n refl)
-
-pub not_other : {A : Type 0} (r : Result A Unserved) (x : TypeRefusal) → r ≡ Err (unserved.IllTyped x) → (r ≡ Err unserved.OtherForm) ⊎ (r ≡ Err unserved.Memory) → ⊥
-not_other r x i (inl h) = let k : Err (unserved.IllTyped x) ≡ Err unserved.OtherForm = sym i ∙ h in cc
-not_other r x i (inr h) = let k : Err (unserved.IllTyped x) ≡ Err unserved.Memory = sym i ∙ h in cc
-
--- a text whose tree is typed is that of no other, and one whose tree is not typed is not that of a typed one
-pub no_fault_of : {text : List ℕ} (r : Result (Spec × List With) SyntaxRefusal) (y : Spec × List With) → Only text r → r ≡ Ok y → refusal_of y.0 ≡ None → ¬ IsUntyped text
-no_fault_of r y only e n u = let k : Some u.0 ≡ None = sym u.1.first ∙ ap refusal_of (is_read r y only e u.1.spec u.1.withs u.1.reads) ∙ n in cc
-
-pub not_typed : {text : List ℕ} (r : Result (Spec × List With) SyntaxRefusal) (y : Spec × List With) → Only text r → r ≡ Ok y
-    → (w : TypeRefusal) → IsTold w (refusal_of y.0) → w ≢ e.Memory → (p : Spec) → IsTyped text p → ⊥
-not_typed r y only i w told real p t = told_is_none w (refusal_of y.0) told real (ap refusal_of (sym (is_read r y only i p t.withs t.reads)) ∙ t.typed)
-
-pub gives_served : (c : Command) (p : Spec) (output : List ℕ) → Gives c p output → Serves c p
-gives_served command.Check p output g = g.served
-gives_served command.Synth p output g = g.served
-gives_served command.Eval p output g = absurd g
-gives_served command.Run p output g = absurd g
-gives_served command.Exec p output g = absurd g
-
-pub is_fault : {A : Type 0} (r : Result A Unserved) (x : A) → r ≡ Ok x → IsFault r → ⊥
-is_fault r x i h = subst IsFault i h
-
-pub no_fault : {A : Type 0} (r : Result A Unserved) (x : Unserved) → r ≡ Err x → IsFault r → IsFault {A = A} (Err x)
-no_fault r x i h = subst IsFault i h
+-- where memory was not wanting, a refusal tells the broken rule
+pub told_fault : (text : List ℕ) (r : TypeRefusal) (output : List ℕ) → IsRefused text r → output ≡ refusal_line r → TellsFault text output
+told_fault text (e.Unbound p x) output h w = record { fault = Unbound p x; is_first = record { spec = h.spec; withs = h.withs; reads = h.reads; first = h.told }; written = w }
+told_fault text (e.Mismatch p u v) output h w = record { fault = Mismatch p u v; is_first = record { spec = h.spec; withs = h.withs; reads = h.reads; first = h.told }; written = w }
+told_fault text (e.Arity p u v) output h w = record { fault = Arity p u v; is_first = record { spec = h.spec; withs = h.withs; reads = h.reads; first = h.told }; written = w }
+told_fault text (e.NoOperation p x u) output h w = record { fault = No_operation p x u; is_first = record { spec = h.spec; withs = h.withs; reads = h.reads; first = h.told }; written = w }
+told_fault text (e.Duplicate p x) output h w = record { fault = Duplicate p x; is_first = record { spec = h.spec; withs = h.withs; reads = h.reads; first = h.told }; written = w }
+told_fault text (e.OtherRep p x) output h w = record { fault = Other_rep p x; is_first = record { spec = h.spec; withs = h.withs; reads = h.reads; first = h.told }; written = w }
+told_fault text e.Memory output h w = absurd (h.real refl)
 
 -- ---- what the source gave
 
@@ -212,20 +201,3 @@ all_given (Some x) None text given e p q = absurd p
 all_given (Some x) (Some y) text given e p q =
     let f : x ≡ text = cc in
     sym (append-nil given) ∙ ap (λ l. given ++ l) (sym q) ∙ sym p ∙ f
-
--- what is told of it is told of the text, by the command that was asked
-pub told_of : (a b : Option (List ℕ)) (o : Option Command) (c : Command) (text : List ℕ) (s : Status) → a ≡ Some text → o ≡ Some c
-    → (d : Command) → o ≡ Some d → GaveText (λ t. ToldBy d t s) a b → ToldBy c text s
-told_of a b o c text s e f d g h =
-    let same : d ≡ c = cc in
-    subst (λ k. ToldBy k text s) same (subst (λ t. ToldBy d t s) (all_given a b text h.0 e h.1 h.2) h.3)
-
--- where nothing was wanting, a refusal tells the broken rule
-pub told_fault : (text : List ℕ) (r : TypeRefusal) → IsRefused text r → (w : Wrong) × HasFault text w × (refusal_line r ≡ type_line w)
-told_fault text (e.Unbound p x) h = (Unbound p x, record { spec = h.spec; withs = h.withs; reads = h.reads; first = h.told }, refl)
-told_fault text (e.Mismatch p u v) h = (Mismatch p u v, record { spec = h.spec; withs = h.withs; reads = h.reads; first = h.told }, refl)
-told_fault text (e.Arity p u v) h = (Arity p u v, record { spec = h.spec; withs = h.withs; reads = h.reads; first = h.told }, refl)
-told_fault text (e.NoOperation p x u) h = (No_operation p x u, record { spec = h.spec; withs = h.withs; reads = h.reads; first = h.told }, refl)
-told_fault text (e.Duplicate p x) h = (Duplicate p x, record { spec = h.spec; withs = h.withs; reads = h.reads; first = h.told }, refl)
-told_fault text (e.OtherRep p x) h = (Other_rep p x, record { spec = h.spec; withs = h.withs; reads = h.reads; first = h.told }, refl)
-told_fault text e.Memory h = absurd (h.real refl)

@@ -1,58 +1,52 @@
 -- What the answer and the write of it say together.
-use Rattle.std.proofs.Common.{◌≡◌, ◌≢◌, ◌⊎◌, inl, inr, ℕ, List, Option, Some, None, ◌∙◌, sym, subst}
+use Rattle.std.proofs.Common.{◌≡◌, ◌≢◌, inl, inr, ℕ, List, Option, Some, None, ◌∙◌, sym, subst}
 use Rattle.std.specs.Io.KnownBytes.{Appends}
-use Rattle.sepref_top.specs.Synthesis.{Made, OtherBy, SyntaxBy}
-use Rattle.nres_core.specs.declared.place.Place.{Place}
-use Rattle.sepref_top.specs.declared.words.Command.{Command}
-use Rattle.sepref_top.specs.declared.words.Command.TheVariants as command
+use Rattle.sepref_top.specs.Answers.{Answers, GaveText, ToldBy, Went}
 use Rattle.sepref_top.specs.Outcome.{AnswersUnlessLost}
+use Rattle.sepref_top.specs.Statuses.{HasFixedLine, TellsText}
 use Rattle.sepref_top.specs.declared.status.Status.{Status}
 use Rattle.sepref_top.specs.declared.status.Status.TheVariants as status
+use Rattle.sepref_top.specs.declared.words.Command.{Command}
+use Rattle.sepref_top.proofs.Told as told
 
--- what ended so was to end so
-pub was : (x s r : Status) → AnswersUnlessLost s r → x ≢ status.WriteFault → r ≡ x → s ≡ x
-was x s r (inl h) n e = sym h ∙ e
-was x s r (inr h) n e = absurd (n (sym e ∙ h))
+-- what tells of the input was not lost
+pub was : (s r : Status) → AnswersUnlessLost s r → TellsText r → r ≡ s
+was s r (inl e) h = e
+was s r (inr e) h = absurd (subst TellsText e h)
 
-pub was_done : (s r : Status) → AnswersUnlessLost s r → r ≡ status.Done → s ≡ status.Done
-was_done s r h e = was status.Done s r h (λ i. cc) e
+pub told_text : (s r : Status) → AnswersUnlessLost s r → TellsText r → TellsText s
+told_text s r lost h = subst TellsText (was s r lost h) h
 
-pub was_untyped : (s r : Status) → AnswersUnlessLost s r → r ≡ status.Type_ → s ≡ status.Type_
-was_untyped s r h e = was status.Type_ s r h (λ i. cc) e
+-- what has a line of its own is not `Done`
+pub not_done : (s r : Status) → HasFixedLine s → AnswersUnlessLost s r → r ≡ status.Done → ⊥
+not_done s r h (inl e) i = subst HasFixedLine (sym e ∙ i) h
+not_done s r h (inr e) i = let g : status.WriteFault ≡ status.Done = sym e ∙ i in cc
 
-pub was_syntax : (s r : Status) (q : Place) → AnswersUnlessLost s r → r ≡ status.Syntax q → s ≡ status.Syntax q
-was_syntax s r q h e = was (status.Syntax q) s r h (λ i. cc) e
+not_lost : (r : Status) → TellsText r → r ≢ status.WriteFault
+not_lost r h e = subst TellsText e h
 
-pub was_not_yet : (s r : Status) → AnswersUnlessLost s r → r ≡ status.NotYet → s ≡ status.NotYet
-was_not_yet s r h e = was status.NotYet s r h (λ i. cc) e
+-- an answer to the command that was asked, and what was written for it
+module _ (o : Option Command) (c : Command) (asked : o ≡ Some c) (s r : Status) (lost : AnswersUnlessLost s r) (output : List ℕ) (old new : Option (List ℕ))
+    (gave : (d : Command) × (o ≡ Some d) × GaveText (λ text. Answers d text s output) old new) where
+  same : gave.0 ≡ c
+  same = let e : Some gave.0 ≡ Some c = sym gave.1 ∙ asked in cc
 
-pub no_fault : (r : Status) → r ≡ status.Done → r ≢ status.WriteFault
-no_fault r e f = let g : status.Done ≡ status.WriteFault = sym e ∙ f in cc
+  answers : Answers c gave.2.0 s output
+  answers = subst (λ d. Answers d gave.2.0 s output) same gave.2.3
 
-pub no_fault_untyped : (r : Status) → r ≡ status.Type_ → r ≢ status.WriteFault
-no_fault_untyped r e f = let g : status.Type_ ≡ status.WriteFault = sym e ∙ f in cc
+  pub went : (before after : Option (List ℕ)) → TellsText r → (r ≢ status.WriteFault → Appends before after output) → Went (λ text written. Answers c text r written) old new before after
+  went before after h whole =
+      (gave.2.0, output, gave.2.1, gave.2.2, whole (not_lost r h), subst (λ x. Answers c gave.2.0 x output) (sym (was s r lost h)) answers)
 
--- by the command that was asked
+  pub told_here : (text : List ℕ) → TellsText s → old ≡ Some text → ToldBy c text s
+  told_here text h known =
+      let it : gave.2.0 ≡ text = told.all_given old new text gave.2.0 known gave.2.1 gave.2.2 in
+      subst (λ t. ToldBy c t s) it (told.told c gave.2.0 s output h answers)
 
-pub made_by : (o : Option Command) (d k : Command) (text output : List ℕ) → o ≡ Some k → o ≡ Some d → Made d text output → Made k text output
-made_by o d k text output e f m = let same : d ≡ k = cc in subst (λ j. Made j text output) same m
-
-pub other_by : (o : Option Command) (d k : Command) (text : List ℕ) → o ≡ Some k → o ≡ Some d → OtherBy d text → OtherBy k text
-other_by o d k text e f m = let same : d ≡ k = cc in subst (λ j. OtherBy j text) same m
-
-pub syntax_by : (o : Option Command) (d k : Command) (text : List ℕ) (q : Place) → o ≡ Some k → o ≡ Some d → SyntaxBy d text q → SyntaxBy k text q
-syntax_by o d k text q e f m = let same : d ≡ k = cc in subst (λ j. SyntaxBy j text q) same m
-
--- only two commands write anything today
-pub by_either : (o : Option Command) (d : Command) (text output : List ℕ) → o ≡ Some d → Made d text output → (o ≡ Some command.Check) ⊎ (o ≡ Some command.Synth)
-by_either o command.Check text output e m = inl e
-by_either o command.Synth text output e m = inr e
-by_either o command.Eval text output e m = absurd m.gives
-by_either o command.Run text output e m = absurd m.gives
-by_either o command.Exec text output e m = absurd m.gives
+-- of status 0
+pub done : (P : List ℕ → Status → List ℕ → Type 0) (old new before after : Option (List ℕ)) (r : Status) → r ≡ status.Done
+    → (TellsText r → Went (λ text output. P text r output) old new before after) → Went (λ text output. P text status.Done output) old new before after
+done P old new before after r e w = subst (λ x. Went (λ text output. P text x output) old new before after) e (w (subst TellsText (sym e) tt))
 
 pub asked_none : (o : Option Command) (k : Command) → o ≡ Some k → o ≡ None → ⊥
 asked_none o k e f = let g : Some k ≡ None = sym e ∙ f in cc
-
-pub appended : (a b : Option (List ℕ)) (x y z : List ℕ) → x ≡ y → y ≡ z → Appends a b x → Appends a b z
-appended a b x y z e f h = subst (λ l. Appends a b l) (e ∙ f) h

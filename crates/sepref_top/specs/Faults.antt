@@ -1,5 +1,5 @@
 -- Why a text is told to be untyped.
-use Rattle.std.specs.Prelude.{◌≢◌, ℕ, List, Result, Ok, Err}
+use Rattle.std.specs.Prelude.{◌≢◌, ℕ, List}
 use Rattle.nres_core.specs.Texts.{SpecText}
 use Rattle.nres_core.specs.Types.{refusal_of}
 use Rattle.nres_core.specs.declared.tree.Spec.{Spec}
@@ -7,8 +7,6 @@ use Rattle.nres_core.specs.declared.tree.With.{With}
 use Rattle.nres_types.specs.Wholes.{IsTold}
 use Rattle.nres_types.specs.declared.refusal.TypeRefusal.{TypeRefusal}
 use Rattle.nres_types.specs.declared.refusal.TypeRefusal.TheVariants as e
-use Rattle.sepref_top.specs.declared.synthesis.Unserved.{Unserved}
-use Rattle.sepref_top.specs.declared.synthesis.Unserved.TheVariants as u
 
 -- the text is that of a specification, of which this refusal tells the rule that is broken first
 pub record IsRefused (text : List ℕ) (r : TypeRefusal) : Type 0 where
@@ -17,10 +15,3 @@ pub record IsRefused (text : List ℕ) (r : TypeRefusal) : Type 0 where
   pub reads : SpecText text spec withs
   pub told : IsTold r (refusal_of spec)
   pub real : r ≢ e.Memory
-
--- it tells a broken rule, or there was no memory
-abbrev pub IsFault : {A : Type 0} → Result A Unserved → Type 0
-IsFault (Ok x) = ⊥
-IsFault (Err (u.IllTyped r)) = Unit {0}
-IsFault (Err u.Memory) = Unit {0}
-IsFault (Err x) = ⊥

@@ -1,5 +1,8 @@
+pub mod Answers
+pub mod Evaluation
 pub mod Executions
 pub mod Faults
+pub mod InputLines
 pub mod Outcome
 pub mod Statuses
 pub mod Synthesis

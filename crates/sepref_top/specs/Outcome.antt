@@ -24,10 +24,10 @@ pub record GaveTooMuch (result : Status) (n : ℕ) : Type 0 where
 abbrev pub TellsLength : Status → Option (List ℕ) → Option (List ℕ) → Type 0
 TellsLength result old new = (n : ℕ) × (Gave old new n × GaveTooMuch result n)
 
--- what went to the sink: the output, the status's line, some front of them, or nothing
+-- what went to the sink: the status's line, an output or a line that tells of the input, some front of them, or nothing
 abbrev pub Wrote : Status → Option (List ℕ) → Option (List ℕ) → Type 0
-Wrote status.Done old new = (text : List ℕ) × Appends old new text
-Wrote status.Type_ old new = (text : List ℕ) × Appends old new text
-Wrote status.WriteFault old new = (front : List ℕ) × Appends old new front
+Wrote status.Usage old new = Appends old new (line_of status.Usage)
+Wrote status.TooLong old new = Appends old new (line_of status.TooLong)
+Wrote status.ReadFault old new = Appends old new (line_of status.ReadFault)
 Wrote status.Memory old new = Keeps old new
-Wrote s old new = Appends old new (line_of s)
+Wrote s old new = (text : List ℕ) × Appends old new text

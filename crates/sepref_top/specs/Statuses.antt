@@ -10,8 +10,11 @@ code_of status.Usage = 1
 code_of (status.Syntax p) = 2
 code_of (status.TooDeep p) = 2
 code_of status.Type_ = 3
+code_of status.Input = 5
 code_of (status.NotProgram k) = 9
 code_of status.TooLong = 11
+code_of (status.Fails l) = 14
+code_of (status.OutOfTurns l) = 15
 code_of status.ReadFault = 20
 code_of status.WriteFault = 21
 code_of status.Memory = 30
@@ -21,39 +24,44 @@ code_of status.NotYet = 40
 abbrev pub placed : List ℕ → Place → List ℕ
 placed words p = words ++ (decimal p.line ++ (codes " " ++ (decimal p.column ++ (10 ∷ []))))
 
--- a line and its line feed; that of a type error tells more than the status
+-- words and a number
+abbrev pub numbered : List ℕ → ℕ → List ℕ
+numbered words n = words ++ (decimal n ++ (10 ∷ []))
+
+-- a line and its line feed; those of a type error and of an input tell more than the status
 abbrev pub line_of : Status → List ℕ
 line_of status.Done = []
 line_of status.Usage = codes "! usage" ++ (10 ∷ [])
 line_of (status.Syntax p) = placed (codes "! syntax ") p
 line_of (status.TooDeep p) = placed (codes "! too deep ") p
 line_of status.Type_ = []
-line_of (status.NotProgram k) = codes "! not a program " ++ (decimal k ++ (10 ∷ []))
+line_of status.Input = []
+line_of (status.NotProgram k) = numbered (codes "! not a program ") k
 line_of status.TooLong = codes "! too long" ++ (10 ∷ [])
+line_of (status.Fails l) = numbered (codes "! fails ") l
+line_of (status.OutOfTurns l) = numbered (codes "! turns ") l
 line_of status.ReadFault = codes "! read fault" ++ (10 ∷ [])
 line_of status.WriteFault = []
 line_of status.Memory = []
 line_of status.NotYet = codes "! not yet" ++ (10 ∷ [])
 
--- the line is the same whatever the input
+-- the line is the same whatever the input, or there is none
 abbrev pub HasFixedLine : Status → Type 0
-HasFixedLine status.Done = ⊥
-HasFixedLine (status.Syntax p) = ⊥
-HasFixedLine (status.TooDeep p) = ⊥
-HasFixedLine status.Type_ = ⊥
-HasFixedLine (status.NotProgram k) = ⊥
-HasFixedLine status.WriteFault = ⊥
-HasFixedLine status.Memory = ⊥
-HasFixedLine s = Unit {0}
+HasFixedLine status.Usage = Unit {0}
+HasFixedLine status.TooLong = Unit {0}
+HasFixedLine status.ReadFault = Unit {0}
+HasFixedLine status.NotYet = Unit {0}
+HasFixedLine status.Memory = Unit {0}
+HasFixedLine s = ⊥
 
--- the output or a line that tells a place of the input
-abbrev pub HasOutput : Status → Type 0
-HasOutput status.Done = Unit {0}
-HasOutput (status.Syntax p) = Unit {0}
-HasOutput (status.TooDeep p) = Unit {0}
-HasOutput status.Type_ = Unit {0}
-HasOutput (status.NotProgram k) = Unit {0}
-HasOutput s = ⊥
+-- it tells what the input is
+abbrev pub TellsText : Status → Type 0
+TellsText status.Usage = ⊥
+TellsText status.TooLong = ⊥
+TellsText status.ReadFault = ⊥
+TellsText status.WriteFault = ⊥
+TellsText status.Memory = ⊥
+TellsText s = Unit {0}
 
 -- there was no memory, or a read or a write failed
 abbrev pub HasFailed : Status → Type 0

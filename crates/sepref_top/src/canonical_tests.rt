@@ -5,7 +5,9 @@ use nres_syntax::read_spec;
 use std::alloc::Global;
 use std::test::Fail;
 
-const TEXTS: [&str; 15] = [
+const TEXTS: [&str; 17] = [
+    "spec calls () : nat\n  x <- call f(a - (b - c), a - b - c)\n  return x\nend\nfun f (a: list as slice kept) : list as slice\n  return (!(a == b), !a == b, max (min a b) (!c))\nend\n",
+    "spec chosen (s: set as hset, h: bag as heap) : (nat, bag as heap)\n  lo <- pick s\n  k <- any lo (lo + 9)\n  (i, g) <- foreach x in s (i, g) from (k, h) do\n    (y, f) <- take_min g\n    return (i + x * y, f)\n  end\n  return (i, g)\nend\n",
     "spec first (xs: list as array kept) : nat\n  x <- get xs 0\n  return x\nend\n",
     "spec dedup (xs: list as array kept) : set as bits 1000\n  s0 <- empty as bits 1000\n  n <- len xs\n  (i, s) <- while (i, s) from (0, s0) if i < n do\n    x <- get xs i\n    assert x < 1000\n    t <- insert s x\n    return (i + 1, t)\n  end\n  return s\nend\n",
     "spec halves (xs: list as array, k: nat) : (list as array, nat, nat)\n  (ys, a, b) <- split xs at k left l\n    n <- len l\n    return (l, n)\n  right r\n    m <- len r\n    return (r, m)\n  end\n  return (ys, a, b)\nend\n",

@@ -3,7 +3,11 @@
 
 #[cfg(test)]
 mod canonical_tests;
+mod evaluation;
 mod execution;
+#[cfg(test)]
+mod flat_tests;
+mod output;
 mod status;
 mod synthesis;
 #[cfg(test)]

@@ -3,6 +3,7 @@
 ghost use Rattle.std.specs.Prelude.{◌≡◌};
 
 use nres_core::Place;
+use std::alloc::AllocError;
 
 /// How a run of the program ended. Each status but `Done`, `WriteFault` and `Memory` has written its line.
 #[derive(Clone, Copy, PartialEq, Eq, Debug)]
@@ -18,10 +19,17 @@ pub enum Status {
     TooDeep(Place),
     /// The specification is not typed; the line tells where and why.
     Type_,
+    /// The values are not those of the parameters; the line tells of which and why.
+    Input,
     /// What stands before the values is the text of no program: this line is refused.
     NotProgram(u64),
     /// The source gave more than 1,048,576 bytes.
     TooLong,
+    /// The path of the first choices fails at a line.
+    Fails(u64),
+    /// The path of the first choices would begin one turn too many of the loop at a line, or make the call at a line inside too many
+    /// calls.
+    OutOfTurns(u64),
     /// A read failed.
     ReadFault,
     /// A write failed; what went out is a prefix of what was to be written.
@@ -44,8 +52,11 @@ impl Status {
             Status::Usage => 1,
             Status::Syntax(_) | Status::TooDeep(_) => 2,
             Status::Type_ => 3,
+            Status::Input => 5,
             Status::NotProgram(_) => 9,
             Status::TooLong => 11,
+            Status::Fails(_) => 14,
+            Status::OutOfTurns(_) => 15,
             Status::ReadFault => 20,
             Status::WriteFault => 21,
             Status::Memory => 30,
@@ -64,5 +75,15 @@ impl Status {
             Status::NotYet => b"! not yet\n",
             _ => b"",
         }
+    }
+}
+
+impl From<AllocError> for Status {
+    ghost use Rattle.sepref_top.specs.declared.status.Status.TheVariants.{Memory};
+
+    ghost from_gives = { λ _ s. s ≡ Memory };
+
+    fn from(_: AllocError) -> Self {
+        Status::Memory
     }
 }

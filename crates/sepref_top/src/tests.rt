@@ -1,4 +1,6 @@
 use crate::calm_main;
+use nres_eval::{EvalEnd, eval};
+use nres_syntax::read_spec;
 use sep_io::{MemSink, MemSource};
 use std::alloc::Global;
 use std::test::Fail;
@@ -141,6 +143,74 @@ fn the_first_broken_rule_is_told(rt: HostRuntime) -> Result<(), Fail> {
             );
         }
     }
+    Ok(())
+}
+
+const HALVES: &str =
+    "spec halves (xs: list as array, k: nat) : (list as array, nat, nat)\n  (ys, a, b) <- split xs at k left l\n    n <- len l\n    return (l, n)\n  right r\n    m <- len r\n    return (r, m)\n  end\n  return (ys, a, b)\nend\n";
+
+const CHOICE: &str =
+    "spec choice (s: set as hset) : (list as vec, nat, nat)\n  z <- either\n    a <- zeros 2 as vec\n    return a\n  or\n    b <- nil as vec\n    return b\n  end\n  x <- any 3 9\n  y <- pick s\n  return (z, x, y)\nend\n";
+
+const DEEP: &str =
+    "spec d () : nat\n  x <- call g(0)\n  return x\nend\nfun g (n: nat) : nat\n  y <- call g(n)\n  return y\nend\n";
+
+#[test]
+fn the_first_path_is_shown_or_why_there_is_none(rt: HostRuntime) -> Result<(), Fail> {
+    for (spec, lines, status, output) in [
+        (
+            HALVES,
+            "with xs = [4, 5, 6]\nwith k = 1\n",
+            0,
+            "= [4, 5, 6]\n= 1\n= 2\n",
+        ),
+        (
+            HALVES,
+            "with k = 4\nwith xs = [4, 5, 6]\n",
+            14,
+            "! fails 2\n",
+        ),
+        (CHOICE, "with s = {7, 5, 7}\n", 0, "= [0, 0]\n= 3\n= 5\n"),
+        (DEEP, "", 15, "! turns 6\n"),
+        (
+            HALVES,
+            "with xs = [4]\nwith n = 1\n",
+            5,
+            "! input n unknown\n",
+        ),
+        (
+            HALVES,
+            "with k = 1\nwith k = true\n",
+            5,
+            "! input k twice\n",
+        ),
+        (HALVES, "with k = true\n", 5, "! input k type\n"),
+        (HALVES, "with k = 1\n", 5, "! input xs missing\n"),
+    ] {
+        let input = format!(in rt.alloc(); "{spec}{lines}")?;
+        let (code, written) = run(rt.alloc(), &["eval"], input.as_bytes(), NEVER, NEVER)?;
+        assert_eq!(rt; code, status, "{lines}");
+        assert!(rt; written.as_slice() == output.as_bytes(), "{lines}");
+    }
+    Ok(())
+}
+
+const SPIN: &str =
+    "spec spin () : nat\n  i <- while i from 0 if true do\n    return i\n  end\n  return i\nend\n";
+
+// The line of the loop that would begin one turn too many, where so many are allowed.
+fn late_line(alloc: Global, text: &str, turns: u64) -> Result<Option<u64>, Fail> {
+    let found = read_spec(alloc, text.as_bytes())?;
+    match eval(alloc, &found.0, &[], turns) {
+        Err(EvalEnd::OutOfTurns(line)) => Ok(Some(line)),
+        _ => Ok(None),
+    }
+}
+
+#[test]
+fn a_loop_has_no_more_turns_than_it_may(rt: HostRuntime) -> Result<(), Fail> {
+    let line = late_line(rt.alloc(), SPIN, 10)?;
+    assert_eq!(rt; line, Some(2));
     Ok(())
 }
 
@@ -291,7 +361,7 @@ fn words_that_are_no_command_line_are_told(rt: HostRuntime) -> Result<(), Fail> 
         (&["bulk"], 1, "! usage\n"),
         (&[""], 1, "! usage\n"),
         (&["check"], 0, FIRST),
-        (&["eval"], 40, "! not yet\n"),
+        (&["eval"], 5, "! input xs missing\n"),
         (&["run"], 40, "! not yet\n"),
         (&["exec"], 9, "! not a program 1\n"),
     ] {

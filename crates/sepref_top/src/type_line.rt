@@ -1,9 +1,9 @@
 //! The line that tells why a specification is not typed.
 
-ghost use Rattle.std.specs.Prelude.{◌≡◌, ◌++◌, IfOk, OnOk, decimal};
+ghost use Rattle.std.specs.Prelude.{◌≡◌, ◌≢◌, ◌++◌, IfOk, OnOk, decimal};
 ghost use Rattle.sepref_top.specs.TypeLines as lines;
 
-use crate::synthesis::push_number;
+use crate::output::push_number;
 use nres_core::{Place, Ty};
 use nres_types::TypeRefusal;
 use std::alloc::{AllocError, Global};
@@ -117,7 +117,8 @@ fn no_operation(alloc: Global, place: Place, word: &Name, found: Ty) -> Result<V
 /// The line of a refusal. There is none for want of memory.
 #[tactic(auto, unfolding(crate::specs::TypeLines::ended))]
 pub(crate) fn type_line(alloc: Global, refusal: &TypeRefusal) -> Result<Vec<u8>, AllocError>
-    ensures { IfOk result (λ line. line.items ≡ lines.refusal_line refusal.now) }
+    ensures line { IfOk result (λ line. line.items ≡ lines.refusal_line refusal.now) }
+    ensures real { IfOk result (λ line. refusal.now ≢ TypeRefusal.Memory) }
 {
     match refusal {
         TypeRefusal::Unbound { place, name } => named(alloc, *place, b"unbound ", name),

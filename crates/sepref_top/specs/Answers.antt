@@ -1,0 +1,170 @@
+-- What each status tells of the text that was read, and of what was written for it.
+use Rattle.std.specs.Prelude.{◌≡◌, ◌⊎◌, ℕ, true, List, Option, Some, None, Result, Ok, Err}
+use Rattle.std.specs.Io.KnownBytes.{Appends, Consumes, IsAtEnd}
+use Rattle.target_code.specs.declared.tree.Program.{Program}
+use Rattle.target_text.specs.Refusals.{RefusedAt as LineRefused}
+use Rattle.nres_core.specs.Texts.{SpecText}
+use Rattle.nres_core.specs.Types.{Wrong, refusal_of}
+use Rattle.nres_core.specs.declared.place.Place.{Place}
+use Rattle.nres_core.specs.declared.tree.Spec.{Spec}
+use Rattle.nres_core.specs.declared.tree.With.{With}
+use Rattle.nres_syntax.specs.Refusals.{RefusedAt, RefusedDeep}
+use Rattle.nres_core.specs.declared.value.Value.{Value}
+use Rattle.inputs.specs.Inputs.{inputs}
+use Rattle.sepref_top.specs.Evaluation.{Evaluated, GivesLines}
+use Rattle.sepref_top.specs.Executions.{HasNoValues, IsExecution, IsNoProgram, IsProgram, NoValuesAt, front_of}
+use Rattle.sepref_top.specs.Statuses.{HasFailed, HasFixedLine, TellsLine, TellsPlace, TellsText, line_of}
+use Rattle.sepref_top.specs.Synthesis.{Canonical, Checked, Printed, Translated}
+use Rattle.sepref_top.specs.TypeLines.{type_line}
+use Rattle.sepref_top.specs.declared.output.Output.{Output}
+use Rattle.sepref_top.specs.declared.status.Status.{Status}
+use Rattle.sepref_top.specs.declared.status.Status.TheVariants as status
+use Rattle.sepref_top.specs.declared.words.Command.{Command}
+use Rattle.sepref_top.specs.declared.words.Command.TheVariants as command
+
+-- ---- of texts of specifications
+
+-- what a command says of a typed specification and the lines behind it
+abbrev pub Serves : Command → Spec → List With → Status → List ℕ → Type 0
+Serves command.Check p ws s output = Checked p s output
+Serves command.Synth p ws s output = Translated p s output
+Serves command.Eval p ws s output = Evaluated p ws s output
+Serves c p ws status.NotYet output = output ≡ line_of status.NotYet
+Serves c p ws status.Memory output = Unit {0}
+Serves c p ws s output = ⊥
+
+-- the text is that of a typed specification and of lines, of which this holds
+pub record Typed (holds_of : Spec → List With → Type 0) (text : List ℕ) : Type 0 where
+  pub spec : Spec
+  pub withs : List With
+  pub reads : SpecText text spec withs
+  pub typed : refusal_of spec ≡ None
+  pub holds : holds_of spec withs
+
+-- the text is that of a specification that is not typed, and this is the rule that is broken first
+pub record HasFault (text : List ℕ) (w : Wrong) : Type 0 where
+  pub spec : Spec
+  pub withs : List With
+  pub reads : SpecText text spec withs
+  pub first : refusal_of spec ≡ Some w
+
+abbrev pub IsNone : List ℕ → Type 0
+IsNone text = (p : Spec) (ws : List With) → ¬ SpecText text p ws
+
+-- the text is that of no specification: this is the first place at which none can go on, and it is told
+pub record StopsAt (text : List ℕ) (q : Place) (output : List ℕ) : Type 0 where
+  pub none : IsNone text
+  pub refused : RefusedAt text q
+  pub written : output ≡ line_of (status.Syntax q)
+
+-- the same, where a limit alone is at fault
+pub record StopsDeep (text : List ℕ) (q : Place) (output : List ℕ) : Type 0 where
+  pub none : IsNone text
+  pub refused : RefusedDeep text q
+  pub written : output ≡ line_of (status.TooDeep q)
+
+-- the rule that is broken first is told
+pub record TellsFault (text output : List ℕ) : Type 0 where
+  pub fault : Wrong
+  pub is_first : HasFault text fault
+  pub written : output ≡ type_line fault
+
+-- a status and an output tell what a command says of a text of a specification
+abbrev pub AnswersSpec : Command → List ℕ → Status → List ℕ → Type 0
+AnswersSpec c text (status.Syntax q) output = StopsAt text q output
+AnswersSpec c text (status.TooDeep q) output = StopsDeep text q output
+AnswersSpec c text status.Type_ output = TellsFault text output
+AnswersSpec c text status.Memory output = Unit {0}
+AnswersSpec c text s output = Typed (λ p ws. Serves c p ws s output) text
+
+-- ---- of programs with values
+
+-- what stands before the values is the text of no program, and this line of it is refused
+pub record NoProgramAt (text : List ℕ) (k : ℕ) (output : List ℕ) : Type 0 where
+  pub refused : LineRefused (front_of true text) k
+  pub written : output ≡ line_of (status.NotProgram k)
+
+-- it is one, and the rest is no list of values
+pub record ValuesStopAt (text : List ℕ) (q : Place) (output : List ℕ) : Type 0 where
+  pub refused : NoValuesAt text q
+  pub written : output ≡ line_of (status.Syntax q)
+
+-- it is one, with values
+pub record NotExecuted (text output : List ℕ) : Type 0 where
+  pub program : Program
+  pub withs : List With
+  pub reads : IsExecution text program withs
+  pub written : output ≡ line_of status.NotYet
+
+abbrev pub AnswersExecution : List ℕ → Status → List ℕ → Type 0
+AnswersExecution text (status.NotProgram k) output = NoProgramAt text k output
+AnswersExecution text (status.Syntax q) output = ValuesStopAt text q output
+AnswersExecution text status.NotYet output = NotExecuted text output
+AnswersExecution text status.Memory output = Unit {0}
+AnswersExecution text s output = ⊥
+
+-- ---- by command
+
+abbrev pub Answers : Command → List ℕ → Status → List ℕ → Type 0
+Answers command.Exec text s output = AnswersExecution text s output
+Answers c text s output = AnswersSpec c text s output
+
+-- the status of an answer, and what is written for it
+abbrev pub status_of : Result Output Status → Status
+status_of (Ok o) = o.status
+status_of (Err s) = s
+
+abbrev pub written_of : Result Output Status → List ℕ
+written_of (Ok o) = o.text
+written_of (Err s) = line_of s
+
+-- an output tells what the text is, and a status without one has a line of its own
+abbrev pub IsWell : Result Output Status → Type 0
+IsWell (Ok o) = TellsText o.status
+IsWell (Err s) = HasFixedLine s
+
+-- an answer is well made, and its status and what is written for it tell this
+abbrev pub Answered : (Status → List ℕ → Type 0) → Result Output Status → Type 0
+Answered tells r = IsWell r × tells (status_of r) (written_of r)
+
+-- ---- whatever the text, it is told
+
+-- A typed specification is told as the command serves it, one that is not typed by its broken rule, and what is no specification by a
+-- place, unless there was no memory, or a read or a write failed.
+pub record Told (c : Command) (text : List ℕ) (s : Status) : Type 0 where
+  pub typed : (p : Spec) (ws : List With) → SpecText text p ws → refusal_of p ≡ None → ((output : List ℕ) × Serves c p ws s output) ⊎ HasFailed s
+  pub untyped : (w : Wrong) → HasFault text w → (s ≡ status.Type_) ⊎ HasFailed s
+  pub none : IsNone text → TellsPlace s ⊎ HasFailed s
+
+-- An input of `exec` is told by a line where it begins with no program, by a place where it is a program with no list of values behind
+-- it, and by `NotYet` where it is a program with values, with the same reserve.
+pub record ToldExecution (text : List ℕ) (s : Status) : Type 0 where
+  pub no_program : IsNoProgram text → TellsLine s ⊎ HasFailed s
+  pub no_values : (t : Program) → IsProgram text t → HasNoValues text → TellsPlace s ⊎ HasFailed s
+  pub other : (t : Program) (ws : List With) → IsExecution text t ws → (s ≡ status.NotYet) ⊎ HasFailed s
+
+abbrev pub ToldBy : Command → List ℕ → Status → Type 0
+ToldBy command.Exec text s = ToldExecution text s
+ToldBy c text s = Told c text s
+
+-- ---- the answers of status 0
+
+-- the output is the text of a sound program of the text's specification, its canonical text, and the lines of a result that it allows
+abbrev pub IsSynthesis : List ℕ → List ℕ → Type 0
+IsSynthesis text output = Typed (λ p ws. Printed p output) text
+
+abbrev pub IsCanonical : List ℕ → List ℕ → Type 0
+IsCanonical text output = Typed (λ p ws. Canonical p output) text
+
+abbrev pub IsEvaluation : List ℕ → List ℕ → Type 0
+IsEvaluation text output = Typed (λ p ws. (us : List Value) × (inputs p.params ws ≡ Ok us) × GivesLines p us output) text
+
+-- ---- of what a source gave, and what went to a sink
+
+-- what the source gave, up to its end, and what went to the sink meet a condition
+abbrev pub Went : (List ℕ → List ℕ → Type 0) → Option (List ℕ) → Option (List ℕ) → Option (List ℕ) → Option (List ℕ) → Type 0
+Went holds old new before after = (text : List ℕ) × (output : List ℕ) × Consumes old new text × IsAtEnd new × Appends before after output × holds text output
+
+-- what the source gave, up to its end, meets a condition
+abbrev pub GaveText : (List ℕ → Type 0) → Option (List ℕ) → Option (List ℕ) → Type 0
+GaveText holds old new = (text : List ℕ) × Consumes old new text × IsAtEnd new × holds text
