@@ -14,6 +14,3 @@ mod plain;
 mod whole;
 
 pub use whole::flatten;
-
-#[cfg(test)]
-mod tests;

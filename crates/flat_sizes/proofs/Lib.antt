@@ -1,0 +1,4 @@
+pub mod Bounded
+pub mod Flattened
+pub mod Samples
+pub mod Typing

@@ -1,0 +1,5 @@
+pub mod Filled
+pub mod Laws
+pub mod Needs
+pub mod Samples
+pub mod Trees

@@ -1,0 +1,19 @@
+-- The values of lines, as they are kept: names with the borrowed values of their lines.
+use Rattle.std.specs.Prelude.{ℕ, List, [], ◌∷◌, ◌++◌, Result, Ok, Err}
+use Rattle.std.specs.Borrow.{Bor}
+use Rattle.nres_core.specs.declared.value.Value.{Value}
+use Rattle.inputs.specs.Inputs.{Fault, Given}
+use Rattle.inputs.specs.declared.refusal.InputRefusal.{InputRefusal}
+
+abbrev pub seen : List (List ℕ × Bor Value) → Given
+seen [] = []
+seen (e ∷ es) = (e.0, e.1.now) ∷ seen es
+
+abbrev pub seen_of : Result (List (List ℕ × Bor Value)) InputRefusal → Result Given InputRefusal
+seen_of (Ok es) = Ok (seen es)
+seen_of (Err e) = Err e
+
+-- values in front of those that are still to come
+abbrev pub onto : List Value → Result (List Value) Fault → Result (List Value) Fault
+onto us (Ok vs) = Ok (us ++ vs)
+onto us (Err e) = Err e

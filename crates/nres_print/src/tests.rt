@@ -1,4 +1,0 @@
-mod exprs;
-mod loops;
-mod sides;
-mod trees;
