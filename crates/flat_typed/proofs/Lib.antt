@@ -1,0 +1,10 @@
+pub mod Appended
+pub mod Blocks
+pub mod Bodies
+pub mod Exps
+pub mod Names
+pub mod Parts
+pub mod Samples
+pub mod Scopes
+pub mod Tests
+pub mod Wholes

@@ -1,0 +1,5 @@
+use Rattle.flat_typed.proofs.Samples.{seen}
+use Rattle.flat_typed.proofs.laws.seen.Goals as goal
+
+pub returns : goal.returns
+returns c = seen

@@ -1,0 +1,3 @@
+pub mod Binders
+pub mod Laws
+pub mod Samples

@@ -1,0 +1,4 @@
+//! The flat tree of a typed specification whose binders are names is typed.
+#![tactic(auto)]
+
+pub mod laws;
