@@ -4,8 +4,6 @@
 
 mod form;
 mod program;
-#[cfg(test)]
-mod tests;
 mod translation;
 
 pub use translation::translate;

@@ -7,8 +7,6 @@ mod reader;
 #[cfg(test)]
 mod reader_tests;
 mod refusal;
-#[cfg(test)]
-mod tests;
 
 pub use printing::print_program;
 pub use reader::read_program;
