@@ -1,0 +1,12 @@
+pub mod Binders
+pub mod Formed
+pub mod Refusals
+pub mod Samples
+pub mod Sizes
+pub mod Tables
+pub mod Texts
+pub mod Tokens
+pub mod Typed
+pub mod Typing
+pub mod Wholes
+pub mod Wording
