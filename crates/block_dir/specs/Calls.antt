@@ -57,6 +57,10 @@ pub record OwnsWord (v : View) (b i : ℕ) : Type 0 where
 abbrev pub SameWord : Cell → Cell → Type 0
 SameWord c d = (c.value ≡ d.value) × (c.home ≡ d.home)
 
+-- two views agree on each place of which both have a share
+abbrev pub Agree : View → View → Type 0
+Agree v u = (p : ℕ) → 0 < share_of p v → 0 < share_of p u → SameWord (cell_of p v) (cell_of p u)
+
 -- beside what is held the views are the same
 abbrev pub SameRest : View → View → Type 0
 SameRest v w = (v.drawn ≡ w.drawn) × (v.position ≡ w.position) × (v.weight ≡ w.weight)

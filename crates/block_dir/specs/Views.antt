@@ -2,7 +2,7 @@
 -- A view has a cell for each place, with the share that the seat holds (0 where it holds nothing), the value there and
 -- the block to which the place belongs. At a header the block is the place itself, and the value is the header, so a
 -- name is held like a word.
-use Rattle.std.specs.Prelude.{◌≡◌, ℕ, zero, suc, ◌+◌, ◌-◌, ◌*◌, ◌/◌, ◌%◌, ◌<◌, ◌≤◌, Bool, true, false, ◌&&◌, ◌||◌, ◌==◌, nat_lt, nat_le, min, max, map, List, [], ◌∷◌, ◌++◌, slice_index_or, cond, Option, Some, None}
+use Rattle.std.specs.Prelude.{◌≡◌, ℕ, zero, suc, ◌+◌, ◌-◌, ◌*◌, ◌/◌, ◌%◌, ◌<◌, ◌≤◌, Bool, true, false, ◌&&◌, ◌||◌, ◌==◌, nat_lt, nat_le, not, min, max, map, List, [], ◌∷◌, ◌++◌, slice_index_or, cond, Option, Some, None}
 use Rattle.block_dir.specs.declared.view.Cell.{Cell}
 use Rattle.block_dir.specs.declared.view.View.{View}
 use Rattle.block_dir.specs.declared.Part.{Part}
@@ -96,6 +96,29 @@ paired (x ∷ xs) (y ∷ ys) = merged x y ∷ paired xs ys
 -- both seats' views in one
 unfoldable pub joined : View → View → View
 joined v u = record { cells = paired v.cells u.cells; position = max v.position u.position; drawn = v.drawn ++ u.drawn; weight = v.weight + u.weight; room = pick v.weight v.room u.room }
+
+-- 1 where both sides have a share of a place and disagree on it
+abbrev pub clash_if : Bool → Bool → Bool → Bool → ℕ
+clash_if a b c d = cond ((a && b) && not (c && d)) 1 0
+
+-- the same of two cells
+abbrev pub clash : Cell → Cell → ℕ
+clash x y = clash_if (nat_lt 0 x.share) (nat_lt 0 y.share) (x.value == y.value) (x.home == y.home)
+
+-- on how many places two lists of cells disagree
+abbrev pub clashes : List Cell → List Cell → ℕ
+clashes [] ys = 0
+clashes (x ∷ xs) [] = 0
+clashes (x ∷ xs) (y ∷ ys) = clash x y + clashes xs ys
+
+-- a view, at the position 0 unless the number is 0; no seat has that position
+abbrev pub unless_any : ℕ → View → View
+unless_any zero v = v
+unless_any (suc n) v = record { cells = v.cells; position = 0; drawn = v.drawn; weight = v.weight; room = v.room }
+
+-- both seats' views in one, where they agree; by the rule they do
+unfoldable pub met : View → View → View
+met v u = unless_any (clashes v.cells u.cells) (joined v u)
 
 -- the view of a seat that was joined away: it has nothing, and no weight
 unfoldable pub spent_view : View

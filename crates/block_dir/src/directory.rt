@@ -23,7 +23,7 @@ pub struct Directory {
 }
 
 /// The answer of a claim.
-#[derive(Clone, Copy, Debug, PartialEq, Eq)]
+#[derive(Clone, Copy)]
 pub enum Claim {
     /// The new block's name.
     Won(u64),

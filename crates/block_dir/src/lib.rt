@@ -28,7 +28,7 @@ pub use seat::DirSeat;
 pub use view::{Cell, View};
 
 /// What a split hands on or lends: a block, or some of its words.
-#[derive(Clone, Copy, Debug, PartialEq, Eq)]
+#[derive(Clone, Copy)]
 pub struct Part {
     /// The block's name, from 1 to the capacity.
     pub block: u64,

@@ -1,6 +1,6 @@
 //! The rule of the table, and what each kind of step tells its caller.
 ghost use Rattle.block_dir.specs.Steps.{sounding, claimed, freed, loaded, stored, marking, looked};
-ghost use Rattle.block_dir.specs.Views.{left_view, right_view, joined, spent_view};
+ghost use Rattle.block_dir.specs.Views.{left_view, right_view, met, spent_view};
 
 use crate::mark::Mark;
 use crate::view::View;
@@ -72,7 +72,7 @@ impl Split<View> for Sides {
 pub(crate) struct Both;
 
 impl Join<View> for Both {
-    ghost both = { joined };
+    ghost both = { met };
 
     ghost spent = { spent_view };
 }

@@ -2,7 +2,7 @@
 //! then has.
 ghost use Rattle.std.specs.Prelude.{◌≡◌, ℕ, ◌+◌, ◌/◌, ◌<◌, ◌≤◌, [], ◌++◌, max, true, false};
 ghost use Rattle.block_dir.specs.Views.{kept, handed, joined, marks, share_of, handed_share};
-ghost use Rattle.block_dir.specs.Calls.{view, seat_of, id_of};
+ghost use Rattle.block_dir.specs.Calls.{view, seat_of, id_of, Agree};
 ghost use Rattle.block_dir.specs.Rule.{Kept};
 
 use crate::Part;
@@ -72,6 +72,9 @@ impl Directory {
         ensures same { seat_of seat.new ≡ seat_of seat.old }
         ensures rule { Kept (view seat.new) }
         ensures joined { view seat.new ≡ joined (view seat.old) (view other) }
+
+        // What both knew of one place was the same.
+        ensures agree { Agree (view seat.old) (view other) }
 
         // What the seat then has.
         ensures shares { (p : ℕ) → share_of p (view seat.new) ≡ share_of p (view seat.old) + share_of p (view other) }

@@ -9,6 +9,22 @@ use std::test::Fail;
 use std::thread;
 use std::thread::Threads;
 
+// The name of a block that was won, 0 where none was.
+fn won(claim: Claim) -> u64 {
+    match claim {
+        Claim::Won(name) => name,
+        Claim::Full { at: _ } => 0,
+    }
+}
+
+// Whether a claim found no room, behind a chain of so many words.
+fn is_full(claim: Claim, words: u64) -> bool {
+    match claim {
+        Claim::Won(_) => false,
+        Claim::Full { at } => at == words,
+    }
+}
+
 // Claims a block, writes a word of it, reads it and releases the block.
 fn visit(directory: &Directory, mut seat: DirSeat, value: u64) -> (u64, DirSeat)
     requires { seat_of seat ≡ id_of directory.now }
@@ -65,10 +81,10 @@ fn four<R: Threads + Sync>(rt: &R, directory: &Directory, mut seat: DirSeat) -> 
 fn four_threads_claim_write_read_and_release(rt: HostRuntime) -> Result<(), Fail> {
     let (directory, seat) = Directory::new(rt.alloc(), 100)?;
     let (sum, mut seat) = four(&rt, &directory, seat);
-    assert_eq!(rt; sum, 10 + 11 + 20 + 21);
     // Four blocks of two words and a header lie before this one, which takes all that is left.
-    assert_eq!(rt; directory.claim(&mut seat, 87), Claim::Won(13));
-    assert_eq!(rt; directory.claim(&mut seat, 0), Claim::Full { at: 100 });
+    let last = won(directory.claim(&mut seat, 87));
+    let full = is_full(directory.claim(&mut seat, 0), 100);
+    assert!(rt; sum == 10 + 11 + 20 + 21 && last == 13 && full);
     Ok(())
 }
 
@@ -206,11 +222,12 @@ fn a_lent_block_is_read_by_both_and_whole_again(rt: HostRuntime) -> Result<(), F
 fn full_comes_at_the_edge(rt: HostRuntime) -> Result<(), Fail> {
     let (directory, mut seat) = Directory::new(rt.alloc(), 1)?;
     let mut other = directory.split(&mut seat, &[], &[]);
-    assert_eq!(rt; directory.claim(&mut seat, u64::MAX), Claim::Full { at: 0 });
-    assert_eq!(rt; directory.claim(&mut seat, 0), Claim::Won(1));
-    assert_eq!(rt; directory.claim(&mut seat, 0), Claim::Full { at: 1 });
-    assert_eq!(rt; directory.claim(&mut seat, u64::MAX), Claim::Full { at: 1 });
+    let too_long = is_full(directory.claim(&mut seat, u64::MAX), 0);
+    let first = won(directory.claim(&mut seat, 0));
+    let full = is_full(directory.claim(&mut seat, 0), 1);
+    let still_too_long = is_full(directory.claim(&mut seat, u64::MAX), 1);
     // This one walks past the other's block.
-    assert_eq!(rt; directory.claim(&mut other, 0), Claim::Full { at: 1 });
+    let other_full = is_full(directory.claim(&mut other, 0), 1);
+    assert!(rt; too_long && first == 1 && full && still_too_long && other_full);
     Ok(())
 }

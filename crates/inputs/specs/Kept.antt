@@ -1,9 +1,13 @@
--- The values of lines, as they are kept: names with the borrowed values of their lines.
-use Rattle.std.specs.Prelude.{ℕ, List, [], ◌∷◌, ◌++◌, Result, Ok, Err}
+-- What is asked for and what lines give, as they are kept: by borrowed names and values.
+use Rattle.std.specs.Prelude.{ℕ, List, [], ◌∷◌, ◌++◌, map, Result, Ok, Err}
 use Rattle.std.specs.Borrow.{Bor}
 use Rattle.nres_core.specs.declared.value.Value.{Value}
-use Rattle.inputs.specs.Inputs.{Fault, Given}
+use Rattle.inputs.specs.Inputs.{Fault, Given, Wants}
 use Rattle.inputs.specs.declared.refusal.InputRefusal.{InputRefusal}
+use Rattle.inputs.specs.declared.wanted.Wanted.{Wanted}
+
+abbrev pub asked : List Wanted → Wants
+asked = map (λ w. (w.name.now, w.need))
 
 abbrev pub seen : List (List ℕ × Bor Value) → Given
 seen [] = []

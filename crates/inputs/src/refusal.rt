@@ -7,7 +7,7 @@ use target_code::Name;
 use thiserror::Error;
 
 /// What is wrong with the value of a name.
-#[derive(Clone, Copy, PartialEq, Eq, Debug)]
+#[derive(Clone, Copy, Debug)]
 pub enum InputFault {
     /// No parameter has the name.
     Unknown,
@@ -15,6 +15,8 @@ pub enum InputFault {
     Twice,
     /// The value has another type than the parameter.
     Type_,
+    /// This element or key, the least such, is not below the bound of the representation in which the value is to lie.
+    Fit(u64),
     /// No line gives it a value.
     Missing,
 }

@@ -8,8 +8,8 @@ use Rattle.nres_core.specs.Grammar as g
 use Rattle.nres_core.specs.Samples.{first_text, first_tree, FirstHasTree, at}
 use Rattle.nres_core.specs.Texts as x
 use Rattle.nres_core.specs.Tokens.{Lexes, ends, space, token, after, first}
-use Rattle.nres_core.specs.Words as w
-use Rattle.nres_core.specs.Words.{Tok, all_seen, arity, plain_word, type_word, rep_word}
+use Rattle.nres_core.specs.Vocabulary as w
+use Rattle.nres_core.specs.Vocabulary.{Tok, all_seen, arity, plain_word, type_word, rep_word}
 use Rattle.nres_core.specs.declared.place.Place.{Place}
 use Rattle.nres_core.specs.declared.token.Piece.{Piece}
 use Rattle.nres_core.specs.declared.token.Piece.TheVariants as piece

@@ -1,12 +1,10 @@
--- The tree of the text `first` as plain data, and its typing.
-use Rattle.std.proofs.Common.{◌≡◌, ℕ, List, [], ◌∷◌, ◌++◌, None, ap, ◌∙◌}
+-- The tree of the text `first` as plain data.
+use Rattle.std.proofs.Common.{◌≡◌, ℕ, List, [], ◌∷◌, None, ap, ◌∙◌}
 use Rattle.std.specs.Prelude.{codes}
 use Rattle.nres_core.specs.Mirror.{exp_of, all_exps, bod_of, blk_of, all_steps}
 use Rattle.nres_core.specs.Samples.{first_tree, first_step, first_body, first_word, first_results, at, var}
 use Rattle.nres_core.specs.Tree as t
 use Rattle.nres_core.specs.Tree.{Exp, Exps, Blk, Bod, Steps, Word}
-use Rattle.nres_core.specs.TypeSamples.{FirstTyped}
-use Rattle.nres_core.specs.Types.{Typed, entered, funs_type, least, sig_of, made_fits}
 use Rattle.nres_core.specs.declared.place.Named.{Named}
 use Rattle.nres_core.specs.declared.place.Place.{Place}
 use Rattle.nres_core.specs.declared.tree.Expr.TheVariants as expr
@@ -53,18 +51,3 @@ block_is =
     mirrored.block (first_step ∷ []) (at 3 3) first_results
     ∙ ap (λ (ss : Steps Word). t.Returns ss (at 3 3) (all_exps first_results)) steps_are
     ∙ ap (λ (e : Exp Word). t.Returns steps (at 3 3) (t.Also e t.None_left)) (mirrored.var (named (codes "x") (at 3 10)))
-
--- the typing, by the block
-abbrev typed_with : Blk Word → Typed
-typed_with b =
-    let one = entered [] first_tree.params first_tree.shown b in
-    let rest = funs_type [] [] [] in
-    record { refusal = least one.refusal rest.refusal; binders = one.binders ++ rest.binders; words = one.words ++ rest.words }
-
-pub first_typed : FirstTyped
-unfolding sig_of made_fits
-first_typed = record {
-  nothing_refused = ap (λ b. (typed_with b).refusal) block_is;
-  binders = ap (λ b. (typed_with b).binders) block_is;
-  words = ap (λ b. (typed_with b).words) block_is;
-}

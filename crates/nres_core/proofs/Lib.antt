@@ -1,7 +1,6 @@
 pub mod FirstText
+pub mod OperationsLemmas
 pub mod Mirrored
 pub mod FlatMirrored
 pub mod FirstTree
-pub mod OneBlock
-pub mod FirstFlat
 pub mod Sizes

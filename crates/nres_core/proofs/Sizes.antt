@@ -1,15 +1,15 @@
--- A tree is no larger than its text.
+-- A tree is no larger than its text, with each loop over a set counted once more.
 use Rattle.std.proofs.Common.{ℕ, suc, ◌+◌, ◌≤◌, Bool, List, [], ◌∷◌, length, None, codes, sym, subst, arith}
 use Rattle.std.proofs.Math.Nat.{max-le}
 use Rattle.target_code.specs.declared.tree.Rep.{Rep}
 use Rattle.nres_core.specs.Grammar as g
 use Rattle.nres_core.specs.Grammar.{IsRep, IsExpr, IsAtom, AreAtoms, IsWhole, IsWholeAtom, AreLater, AreResults, AreOthers, IsPattern, AreArgs, IsBlock, AreSteps, IsStep, IsBody, chosen}
 use Rattle.nres_core.specs.Mirror.{exp_of, all_exps, bod_of, blk_of, before, all_steps}
-use Rattle.nres_core.specs.Sizes.{exp_size, exps_size, blk_size, steps_size, bod_size, funs_size, size_of, blk_nesting, steps_nesting, bod_nesting, funs_nesting, nesting_of, NoLargerThanItsText}
+use Rattle.nres_core.specs.Sizes.{exp_size, exps_size, blk_size, steps_size, bod_size, funs_size, size_of, blk_loops, steps_loops, bod_loops, funs_loops, loops_of, blk_nesting, steps_nesting, bod_nesting, funs_nesting, nesting_of, NoLargerThanItsText, NoLargerWithItsLoops}
 use Rattle.nres_core.specs.Texts as x
 use Rattle.nres_core.specs.Texts.{IsContainer, IsOne, IsParam, AreMoreParams, AreParams, AreMoreShown, AreShown, IsSpec, AreFuns, IsFile}
 use Rattle.nres_core.specs.Tree.{Exp, Blk, Bod, Steps, Word}
-use Rattle.nres_core.specs.Words.{Tok, named, place_of}
+use Rattle.nres_core.specs.Vocabulary.{Tok, named, place_of}
 use Rattle.nres_core.specs.declared.place.Named.{Named}
 use Rattle.nres_core.specs.declared.tree.Block.{Block}
 use Rattle.nres_core.specs.declared.tree.Body.{Body}
@@ -19,6 +19,7 @@ use Rattle.nres_core.specs.declared.tree.Param.{Param}
 use Rattle.nres_core.specs.declared.tree.Shown.{Shown}
 use Rattle.nres_core.specs.declared.tree.Spec.{Spec}
 use Rattle.nres_core.specs.declared.tree.Step.{Step}
+use Rattle.nres_core.specs.declared.tree.With.{With}
 use Rattle.nres_core.proofs.Mirrored.{mirrored}
 
 -- from ts up to rest there are n tokens or more
@@ -112,19 +113,19 @@ pattern_spans (g.names d) = let all = others_span d in record { spans = omega (a
 
 -- ---- blocks
 
--- what a part of a text may hold: n in so many tokens, with blocks in one another d times, where r may be open
+-- what a part of a text may hold: n, its loops over sets counted, in so many tokens, with blocks in one another d times, where r may be open
 pub record Holds (r : ℕ) (ts rest : List Tok) (n d : ℕ) : Type 0 where
   pub spans : n + length rest ≤ length ts
   pub nests : d ≤ r
 
 abbrev BodHolds : ℕ → List Tok → List Tok → Bod Word → Type 0
-BodHolds r ts rest b = Holds r ts rest (bod_size b) (bod_nesting b)
+BodHolds r ts rest b = Holds r ts rest (bod_size b + bod_loops b) (bod_nesting b)
 
 abbrev StepsHold : ℕ → List Tok → List Tok → Steps Word → Type 0
-StepsHold r ts rest ss = Holds r ts rest (steps_size ss) (steps_nesting ss)
+StepsHold r ts rest ss = Holds r ts rest (steps_size ss + steps_loops ss) (steps_nesting ss)
 
 abbrev BlkHolds : ℕ → List Tok → List Tok → Blk Word → Type 0
-BlkHolds r ts rest b = Holds r ts rest (blk_size b) (blk_nesting b)
+BlkHolds r ts rest b = Holds r ts rest (blk_size b + blk_loops b) (blk_nesting b)
 
 mutual
   pub block_holds : {l r : ℕ} {ts rest : List Tok} {b : Block} → IsBlock l r ts rest b → BlkHolds (suc r) ts rest (blk_of b)
@@ -151,7 +152,7 @@ mutual
   body_holds : {l r : ℕ} {ts rest : List Tok} {b : Body} → IsBody l r ts rest b → BodHolds r ts rest (bod_of b)
   body_holds {r = r} {ts = ts} {rest = rest} (g.value {e = e} d) =
       let one = whole_spans d in
-      subst (BodHolds r ts rest) (sym (mirrored.value e)) (record { spans = one.spans; nests = omega arith })
+      subst (BodHolds r ts rest) (sym (mirrored.value e)) (record { spans = omega (arith, one.spans); nests = omega arith })
   body_holds {r = r} {ts = ts} {rest = rest} (g.takes {p = p} {w = w} {e = e} i d) =
       let one = single_spans d in
       subst (BodHolds r ts rest) (sym (mirrored.take p w e)) (record { spans = omega (arith, one.spans); nests = omega arith })
@@ -236,7 +237,7 @@ shown_span (x.several_shown d ds) =
 
 -- ---- whole texts
 
-funs_hold : {l r : ℕ} {ts rest : List Tok} {fs : List Fun} → AreFuns l r ts rest fs → Holds r ts rest (funs_size fs) (funs_nesting fs)
+funs_hold : {l r : ℕ} {ts rest : List Tok} {fs : List Fun} → AreFuns l r ts rest fs → Holds r ts rest (funs_size fs + funs_loops fs) (funs_nesting fs)
 funs_hold x.no_fun = record { spans = omega arith; nests = omega arith }
 funs_hold (x.fun xs ys d ds) =
     let params = params_span xs in
@@ -245,14 +246,20 @@ funs_hold (x.fun xs ys d ds) =
     let all = funs_hold ds in
     record { spans = omega (arith, params.spans, shown.spans, one.spans, all.spans); nests = max-le one.nests all.nests }
 
-spec_holds : {l r : ℕ} {ts mid rest : List Tok} {fs : List Fun} {p : Spec} → IsSpec l r ts mid fs p → Holds r mid rest (funs_size fs) (funs_nesting fs) → Holds r ts rest (size_of p) (nesting_of p)
+spec_holds : {l r : ℕ} {ts mid rest : List Tok} {fs : List Fun} {p : Spec} → IsSpec l r ts mid fs p → Holds r mid rest (funs_size fs + funs_loops fs) (funs_nesting fs) → Holds r ts rest (size_of p + loops_of p) (nesting_of p)
 spec_holds (x.spec xs ys d) all =
     let params = params_span xs in
     let shown = shown_span ys in
     let one = block_holds d in
     record { spans = omega (arith, params.spans, shown.spans, one.spans, all.spans); nests = max-le one.nests all.nests }
 
-pub no_larger : NoLargerThanItsText
-no_larger l r ts p ws (x.file d ds ws') =
+file_holds : {l r : ℕ} {ts : List Tok} {p : Spec} {ws : List With} → IsFile l r ts p ws → Holds r ts [] (size_of p + loops_of p) (nesting_of p)
+file_holds (x.file d ds ws') =
     let all = spec_holds d (funs_hold ds) in
-    (omega (arith, all.spans), all.nests)
+    record { spans = omega (arith, all.spans); nests = all.nests }
+
+pub no_larger : NoLargerThanItsText
+no_larger l r ts p ws f = let all = file_holds f in (omega (arith, all.spans), all.nests)
+
+pub no_larger_with_loops : NoLargerWithItsLoops
+no_larger_with_loops l r ts p ws f = let all = file_holds f in omega (arith, all.spans)

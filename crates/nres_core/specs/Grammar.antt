@@ -3,7 +3,7 @@
 use Rattle.std.specs.Prelude.{◌≡◌, ℕ, suc, ◌+◌, ◌≤◌, ◌==◌, Bool, true, false, not, List, [], ◌∷◌, Option, Some, None, codes}
 use Rattle.target_code.specs.declared.tree.Calc.{Calc}
 use Rattle.target_code.specs.declared.tree.Rep.{Rep}
-use Rattle.nres_core.specs.Words.{Tok, word, sign, name, number, named, place_of, arity, calc_word, is_empty_word, is_take_word, truth_word, rep_word, bound_word, binary_sign}
+use Rattle.nres_core.specs.Vocabulary.{Tok, word, sign, name, number, named, place_of, arity, calc_word, is_empty_word, is_take_word, truth_word, rep_word, bound_word, binary_sign}
 use Rattle.nres_core.specs.declared.place.Named.{Named}
 use Rattle.nres_core.specs.declared.place.Place.{Place}
 use Rattle.nres_core.specs.declared.tree.Block.{Block, roll-Block}

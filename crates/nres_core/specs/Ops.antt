@@ -1,8 +1,8 @@
 -- The meaning of the 32 operations, of calculations and of conditions.
 use Rattle.std.specs.Prelude.{ℕ, zero, suc, ◌+◌, ◌-◌, ◌*◌, ◌/◌, ◌%◌, ◌^◌, min, max, nat_lt, nat_le, nat_eq, Bool, true, false, not, ◌&&◌, ◌||◌, cond, List, [], ◌∷◌, ◌++◌, length, slice_index, slice_set, take, Option, Some, None}
-use Rattle.numbers.specs.Sets as sets
+use Rattle.containers.specs.Sets as sets
 use Rattle.std.specs.FinMap as maps
-use Rattle.numbers.specs.Bag.{bag_of, no_number, added}
+use Rattle.containers.specs.Bag.{bag_of, no_number, added}
 use Rattle.nres_core.specs.Runs.{Runs, Done, Failed, Over, Choose, One_of, Order_of}
 use Rattle.nres_core.specs.declared.op.Op.{Op}
 use Rattle.nres_core.specs.declared.op.Op.TheVariants as o

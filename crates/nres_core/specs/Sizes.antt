@@ -4,7 +4,7 @@ use Rattle.nres_core.specs.Mirror.{blk_of}
 use Rattle.nres_core.specs.Texts.{IsFile}
 use Rattle.nres_core.specs.Tree as t
 use Rattle.nres_core.specs.Tree.{Exp, Exps, Blk, Steps, Bod}
-use Rattle.nres_core.specs.Words.{Tok}
+use Rattle.nres_core.specs.Vocabulary.{Tok}
 use Rattle.nres_core.specs.declared.tree.Block.{Block}
 use Rattle.nres_core.specs.declared.tree.Fun.{Fun}
 use Rattle.nres_core.specs.declared.tree.Param.{Param}
@@ -61,6 +61,37 @@ funs_size (f ∷ fs) = entry_size f.params f.shown f.body + funs_size fs
 abbrev pub size_of : Spec → ℕ
 size_of s = entry_size s.params s.shown s.body + funs_size s.funs
 
+-- ---- loops over sets
+
+-- how many there are, those in others counted
+abbrev mutual
+  pub blk_loops : {W : Type 0} → Blk W → ℕ
+  blk_loops (t.Returns ss p es) = steps_loops ss
+
+  pub steps_loops : {W : Type 0} → Steps W → ℕ
+  steps_loops t.No_step = 0
+  steps_loops (t.Bind xs p b ss) = bod_loops b + steps_loops ss
+  steps_loops (t.Assert p e ss) = steps_loops ss
+
+  pub bod_loops : {W : Type 0} → Bod W → ℕ
+  bod_loops (t.Value e) = 0
+  bod_loops (t.Take p w e) = 0
+  bod_loops (t.Any p a b) = 0
+  bod_loops (t.If p e a b) = blk_loops a + blk_loops b
+  bod_loops (t.While p xs q es e b) = blk_loops b
+  bod_loops (t.Par p a b) = blk_loops a + blk_loops b
+  bod_loops (t.Split p z e x a y b) = blk_loops a + blk_loops b
+  bod_loops (t.Either p a b) = blk_loops a + blk_loops b
+  bod_loops (t.Foreach p x z xs q es b) = suc (blk_loops b)
+  bod_loops (t.Call p f es) = 0
+
+abbrev pub funs_loops : List Fun → ℕ
+funs_loops [] = 0
+funs_loops (f ∷ fs) = blk_loops (blk_of f.body) + funs_loops fs
+
+abbrev pub loops_of : Spec → ℕ
+loops_of s = blk_loops (blk_of s.body) + funs_loops s.funs
+
 -- ---- nesting
 
 -- how many blocks stand in one another: a block stands in the one that a step of it stands in
@@ -98,3 +129,7 @@ nesting_of s = max (blk_nesting (blk_of s.body)) (funs_nesting s.funs)
 -- the size is at most the number of tokens, and the blocks nest no deeper than blocks may be open
 abbrev pub NoLargerThanItsText : Type 0
 NoLargerThanItsText = (l r : ℕ) (ts : List Tok) (p : Spec) (ws : List With) → IsFile l r ts p ws → (size_of p ≤ length ts) × (nesting_of p ≤ r)
+
+-- so it is of the size with each loop over a set counted once more
+abbrev pub NoLargerWithItsLoops : Type 0
+NoLargerWithItsLoops = (l r : ℕ) (ts : List Tok) (p : Spec) (ws : List With) → IsFile l r ts p ws → size_of p + loops_of p ≤ length ts

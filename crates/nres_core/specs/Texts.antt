@@ -5,10 +5,10 @@ use Rattle.std.specs.FinSet as sets
 use Rattle.std.specs.Ordering.{nat_cmp}
 use Rattle.target_code.specs.declared.tree.Rep.{Rep}
 use Rattle.target_code.specs.declared.tree.Rep.TheVariants as rep
-use Rattle.numbers.specs.Bag.{bag_of}
+use Rattle.containers.specs.Bag.{bag_of}
 use Rattle.nres_core.specs.Grammar.{IsRep, IsBlock}
 use Rattle.nres_core.specs.Tokens.{Lexes, first}
-use Rattle.nres_core.specs.Words.{Tok, all_seen, word, sign, name, number, place_of, plain_word, type_word, truth_word}
+use Rattle.nres_core.specs.Vocabulary.{Tok, all_seen, word, sign, name, number, place_of, plain_word, type_word, truth_word}
 use Rattle.nres_core.specs.declared.place.Place.{Place}
 use Rattle.nres_core.specs.declared.token.Token.{Token}
 use Rattle.nres_core.specs.declared.tree.Block.{Block}

@@ -6,7 +6,7 @@ use sqlite_items::Items;
 use target_code::{Calc, InParam, Name, Rep};
 
 /// What a bind works on.
-#[derive(Clone, Copy, PartialEq, Eq, Debug)]
+#[derive(Clone, Copy, PartialEq, Eq)]
 pub enum Arg {
     /// A variable.
     Var(u32),
@@ -17,7 +17,7 @@ pub enum Arg {
 }
 
 /// A flat specification. Its variables are numbered through the whole text, in the order in which they are bound.
-#[derive(Debug, Drop)]
+#[derive(Drop)]
 pub struct Flat {
     /// The parameters, which are the first variables.
     pub params: Items<InParam>,
@@ -32,7 +32,7 @@ pub struct Flat {
 }
 
 /// A flat procedure.
-#[derive(Debug, Drop)]
+#[derive(Drop)]
 pub struct FlatFun {
     /// Its name.
     pub name: Name,
@@ -46,7 +46,7 @@ pub struct FlatFun {
 
 /// Binds, and the results that they end with.
 #[cycle(flat)]
-#[derive(Debug, Drop)]
+#[derive(Drop)]
 pub struct FlatBlock {
     /// The binds, in order.
     pub binds: Items<FlatBind>,
@@ -58,7 +58,7 @@ pub struct FlatBlock {
 
 /// A bind. `outs` are the variables of its results.
 #[cycle(flat)]
-#[derive(Debug, Drop)]
+#[derive(Drop)]
 pub enum FlatBind {
     /// A calculation.
     Calc {

@@ -7,7 +7,7 @@ use sqlite_items::{Boxed, Items};
 use target_code::{Calc, Name};
 
 /// A specification with its operations identified.
-#[derive(Debug, Drop)]
+#[derive(Drop)]
 pub struct Identified {
     /// Its name.
     pub name: Name,
@@ -22,7 +22,7 @@ pub struct Identified {
 }
 
 /// A procedure of such a specification.
-#[derive(Debug, Drop)]
+#[derive(Drop)]
 pub struct IdFun {
     /// Its name.
     pub name: Name,
@@ -38,7 +38,7 @@ pub struct IdFun {
 
 /// Steps, and the results that they end with.
 #[cycle(id_tree)]
-#[derive(Debug, Drop)]
+#[derive(Drop)]
 pub struct IdBlock {
     /// The steps, in order.
     pub steps: Items<IdStep>,
@@ -50,7 +50,7 @@ pub struct IdBlock {
 
 /// A step of a block.
 #[cycle(id_tree)]
-#[derive(Debug, Drop)]
+#[derive(Drop)]
 pub enum IdStep {
     /// Binds names to the results of a body.
     Bind {
@@ -72,7 +72,7 @@ pub enum IdStep {
 
 /// What gives the results of a bind. A place is that of the construct's word.
 #[cycle(id_tree)]
-#[derive(Debug, Drop)]
+#[derive(Drop)]
 pub enum IdBody {
     /// The value of an expression.
     Value(IdExpr),
@@ -145,7 +145,7 @@ pub enum IdBody {
 }
 
 /// An expression. Its place is that of its first token; brackets round the whole do not count.
-#[derive(Debug, Drop)]
+#[derive(Drop)]
 pub enum IdExpr {
     /// A number.
     Num {

@@ -1,12 +1,9 @@
 //! Laws of specifications. Their functions do nothing; what they ensure is the law.
 
-ghost use Rattle.nres_core.specs.FlatSamples as flat_samples;
-ghost use Rattle.nres_core.specs.IdentifySamples as identify_samples;
 ghost use Rattle.nres_core.specs.Mirrors as mirrors;
+ghost use Rattle.nres_core.specs.Operations as operations;
 ghost use Rattle.nres_core.specs.Samples as samples;
-ghost use Rattle.nres_core.specs.SizeSamples as size_samples;
 ghost use Rattle.nres_core.specs.Sizes as sizes;
-ghost use Rattle.nres_core.specs.TypeSamples as type_samples;
 
 /// The text `first` has its tree.
 pub fn first_has_tree()
@@ -28,32 +25,18 @@ pub fn flat_mirrored()
     ensures { mirrors.FlatMirrored }
 {}
 
-/// What the types of small specifications are, and which refusal is the least.
-pub fn types_seen()
-    ensures { type_samples.Seen }
-{}
-
-/// The flat tree of a loop over a set.
-pub fn flat_seen()
-    ensures { flat_samples.Seen }
-{}
-
-/// The typing of the text `first`.
-pub fn first_typed()
-    ensures { type_samples.FirstTyped }
-{}
-
-/// The flat tree of the text `first`.
-pub fn first_is_flat()
-    ensures { identify_samples.FirstIsFlat }
-{}
-
 /// A tree is no larger than its text: its size is at most the number of tokens, and its blocks nest no deeper than blocks may be open.
 pub fn no_larger_than_its_text()
     ensures { sizes.NoLargerThanItsText }
 {}
 
-/// The sizes of small specifications.
-pub fn sizes_seen()
-    ensures { size_samples.Seen }
+/// So it is with each loop over a set counted once more: that sum too is at most the number of tokens.
+pub fn no_larger_with_its_loops()
+    ensures { sizes.NoLargerWithItsLoops }
+{}
+
+/// The operations of each word are those of their types: for the type of a first argument one that takes such a value, and as many
+/// values as the others; for the type of a representation one that makes such a container.
+pub fn words_fit()
+    ensures { operations.WordsFit }
 {}

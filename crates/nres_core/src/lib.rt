@@ -13,10 +13,11 @@ mod token;
 mod tree;
 mod ty;
 mod value;
+mod vocabulary;
 
+pub use containers::{NumBag, NumMap, NumSet, Nums};
 pub use flat::{Arg, Flat, FlatBind, FlatBlock, FlatFun};
 pub use identified::{IdBlock, IdBody, IdExpr, IdFun, IdStep, Identified};
-pub use numbers::{NumBag, NumMap, NumSet, Nums};
 pub use op::Op;
 pub use place::{Named, Place};
 pub use refusal::{Refusal, Why};
@@ -25,3 +26,4 @@ pub use token::{Piece, Token, TokenKind};
 pub use tree::{Block, Body, Chosen, Expr, Fun, Param, Shown, Spec, Step, Typing, With};
 pub use ty::Ty;
 pub use value::Value;
+pub use vocabulary::{ByType, Meant, OPERATION_WORDS, OpEntry, look_up, rep_type};

@@ -1,7 +1,7 @@
 //! Operations on containers.
 
 /// An operation. Words that several types share have one operation for each.
-#[derive(Clone, Copy, PartialEq, Eq, Debug)]
+#[derive(Clone, Copy, PartialEq, Eq)]
 pub enum Op {
     /// A list of so many zeros.
     Zeros,

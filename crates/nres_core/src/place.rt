@@ -12,7 +12,7 @@ pub struct Place {
 }
 
 /// A name and where it stands.
-#[derive(Debug, Drop)]
+#[derive(Drop)]
 pub struct Named {
     /// The name.
     pub name: Name,

@@ -6,7 +6,7 @@ use target_code::{Name, Rep};
 
 /// Why a bind is refused. A name is that to which the variable was first bound, the digits of a literal, or `_` for a
 /// value without a name.
-#[derive(Debug, Drop)]
+#[derive(Drop)]
 pub enum Why {
     /// No row fits the arguments.
     Missing,
@@ -27,7 +27,7 @@ pub enum Why {
 }
 
 /// A bind that the rules refuse.
-#[derive(Debug, Drop)]
+#[derive(Drop)]
 pub struct Refusal {
     /// The place of the bind.
     pub place: Place,

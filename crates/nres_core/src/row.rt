@@ -3,7 +3,7 @@
 use crate::op::Op;
 
 /// A representation without its bound.
-#[derive(Clone, Copy, PartialEq, Eq, Debug)]
+#[derive(Clone, Copy, PartialEq, Eq)]
 pub enum Kind {
     /// A number in one register.
     Word,
@@ -28,7 +28,7 @@ pub enum Kind {
 }
 
 /// What becomes of an argument.
-#[derive(Clone, Copy, PartialEq, Eq, Debug)]
+#[derive(Clone, Copy, PartialEq, Eq)]
 pub enum Fate {
     /// It can be used again.
     Kept,
@@ -37,7 +37,7 @@ pub enum Fate {
 }
 
 /// How a row computes its results.
-#[derive(Clone, Copy, PartialEq, Eq, Debug)]
+#[derive(Clone, Copy, PartialEq, Eq)]
 pub enum RowCode {
     /// A move of that register of the first argument, counted from 0.
     Register(u8),
@@ -46,7 +46,7 @@ pub enum RowCode {
 }
 
 /// A rule row. Entries of `args` and `fates` from `count` on, and of `results` from `outs` on, say nothing.
-#[derive(Clone, Copy, PartialEq, Eq, Debug)]
+#[derive(Clone, Copy, PartialEq, Eq)]
 pub struct Row {
     /// The operation.
     pub op: Op,
@@ -69,7 +69,7 @@ pub struct Row {
 }
 
 /// A library procedure, which is called by its representation, `_` and its word.
-#[derive(Clone, Copy, PartialEq, Eq, Debug)]
+#[derive(Clone, Copy, PartialEq, Eq)]
 pub enum LibName {
     /// A block of zeros.
     ArrayZeros,

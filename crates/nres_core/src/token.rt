@@ -3,7 +3,7 @@
 use crate::place::Place;
 
 /// What a token is.
-#[derive(Clone, Copy, PartialEq, Eq, Debug)]
+#[derive(Clone, Copy, PartialEq, Eq)]
 pub enum TokenKind {
     /// A name that is not reserved.
     Name,
@@ -16,7 +16,7 @@ pub enum TokenKind {
 }
 
 /// A token, its bytes `start` to `end` of the text, counted from 0, and the place of the first of them.
-#[derive(Clone, Copy, PartialEq, Eq, Debug)]
+#[derive(Clone, Copy, PartialEq, Eq)]
 pub struct Token {
     /// What it is.
     pub kind: TokenKind,
@@ -29,7 +29,7 @@ pub struct Token {
 }
 
 /// What stands at the front of a text.
-#[derive(Clone, Copy, PartialEq, Eq, Debug)]
+#[derive(Clone, Copy, PartialEq, Eq)]
 pub enum Piece {
     /// So many bytes between tokens: a blank or a comment.
     Space(usize),

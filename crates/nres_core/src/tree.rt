@@ -8,7 +8,7 @@ use sqlite_items::{Boxed, Items};
 use target_code::{Calc, Name, Rep};
 
 /// A specification: what it takes, what it shows, and its procedures in the order of the text.
-#[derive(Debug, Drop)]
+#[derive(Drop)]
 pub struct Spec {
     /// Its name.
     pub name: Name,
@@ -23,7 +23,7 @@ pub struct Spec {
 }
 
 /// A procedure of a specification.
-#[derive(Debug, Drop)]
+#[derive(Drop)]
 pub struct Fun {
     /// Its name.
     pub name: Name,
@@ -38,7 +38,7 @@ pub struct Fun {
 }
 
 /// A parameter.
-#[derive(Debug, Drop)]
+#[derive(Drop)]
 pub struct Param {
     /// Its name.
     pub name: Name,
@@ -55,7 +55,7 @@ pub struct Param {
 }
 
 /// A result that is shown.
-#[derive(Clone, Copy, PartialEq, Eq, Debug)]
+#[derive(Clone, Copy, PartialEq, Eq)]
 pub struct Shown {
     /// The type of its value.
     pub ty: Ty,
@@ -66,7 +66,7 @@ pub struct Shown {
 }
 
 /// The representation that a constructor of a container is written with.
-#[derive(Clone, Copy, PartialEq, Eq, Debug)]
+#[derive(Clone, Copy, PartialEq, Eq)]
 pub struct Chosen {
     /// The representation.
     pub rep: Rep,
@@ -76,7 +76,7 @@ pub struct Chosen {
 
 /// Steps, and the results that they end with.
 #[cycle(tree)]
-#[derive(Debug, Drop)]
+#[derive(Drop)]
 pub struct Block {
     /// The steps, in order.
     pub steps: Items<Step>,
@@ -88,7 +88,7 @@ pub struct Block {
 
 /// A step of a block.
 #[cycle(tree)]
-#[derive(Debug, Drop)]
+#[derive(Drop)]
 pub enum Step {
     /// Binds names to the results of a body.
     Bind {
@@ -110,7 +110,7 @@ pub enum Step {
 
 /// What gives the results of a bind. A place is that of the construct's word.
 #[cycle(tree)]
-#[derive(Debug, Drop)]
+#[derive(Drop)]
 pub enum Body {
     /// The value of an expression.
     Value(Expr),
@@ -183,7 +183,7 @@ pub enum Body {
 }
 
 /// An expression. Its place is that of its first token; brackets round the whole do not count.
-#[derive(Debug, Drop)]
+#[derive(Drop)]
 pub enum Expr {
     /// A number.
     Num {
@@ -230,7 +230,7 @@ pub struct With {
 }
 
 /// The types of a specification, in the order of its text.
-#[derive(Debug, Drop)]
+#[derive(Drop)]
 pub struct Typing {
     /// The types of all names that are bound.
     pub binders: Items<Ty>,

@@ -2,7 +2,7 @@
 
 ghost use Rattle.std.specs.Prelude.{◌≡◌, IfOk};
 
-use numbers::{NumBag, NumMap, NumSet, Nums};
+use containers::{NumBag, NumMap, NumSet, Nums};
 use std::alloc::AllocError;
 
 /// What a name stands for.

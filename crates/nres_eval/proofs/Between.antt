@@ -6,7 +6,7 @@ use Rattle.nres_core.specs.declared.op.Op.{Op}
 use Rattle.nres_core.specs.declared.tree.Expr.{Expr}
 use Rattle.nres_core.specs.declared.value.Value.{Value}
 use Rattle.nres_meaning.specs.Meaning.{Env, apply, exp_runs, head_of}
-use Rattle.nres_meaning.specs.Words.{op_named}
+use Rattle.nres_meaning.specs.WordOperations.{op_named}
 use Rattle.nres_eval.specs.Bodies.{any_runs, between, take_runs, value_runs}
 use Rattle.nres_eval.proofs.Exprs.{First}
 use Rattle.nres_eval.proofs.Paths.{at_gave, behind, first_bind, regroup}

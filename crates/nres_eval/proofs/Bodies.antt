@@ -21,7 +21,7 @@ use Rattle.nres_core.specs.declared.value.Value.{Value}
 use Rattle.nres_core.specs.declared.value.Value.TheVariants as v
 use Rattle.nres_meaning.specs.Meaning as meaning
 use Rattle.nres_meaning.specs.Meaning.{Env, apply, blk_runs, bod_runs, bound, branch, each, exp_runs, exps_runs, head_of, listed, parts_out, steps_runs, tail_of, tested, turns, value_of}
-use Rattle.nres_meaning.specs.Words.{op_named}
+use Rattle.nres_meaning.specs.WordOperations.{op_named}
 use Rattle.nres_eval.specs.Bodies.{any_runs, each_runs, elements_runs, halves_runs, holds_runs, part_runs, take_runs, turns_runs, value_runs}
 use Rattle.nres_eval.specs.Environment.{Extends}
 use Rattle.nres_eval.proofs.Exprs.{First, Firsts}

@@ -7,7 +7,7 @@ use Rattle.nres_core.specs.Tree.{Word, same_name}
 use Rattle.nres_core.specs.declared.tree.Fun.{Fun}
 use Rattle.nres_core.specs.declared.value.Value.{Value}
 use Rattle.nres_meaning.specs.Meaning.{blk_runs, bound, called, calls}
-use Rattle.nres_meaning.specs.Words.{op_named}
+use Rattle.nres_meaning.specs.WordOperations.{op_named}
 use Rattle.nres_eval.specs.Calls.{calls_of}
 use Rattle.nres_eval.specs.Procedures.{proc_named}
 

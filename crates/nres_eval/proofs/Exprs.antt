@@ -15,7 +15,7 @@ use Rattle.nres_core.specs.declared.tree.Expr.TheVariants as x
 use Rattle.nres_core.specs.declared.value.Value.{Value}
 use Rattle.nres_core.specs.declared.value.Value.TheVariants as v
 use Rattle.nres_meaning.specs.Meaning.{Env, apply, exp_runs, exps_runs, head_of}
-use Rattle.nres_meaning.specs.Words.{op_named}
+use Rattle.nres_meaning.specs.WordOperations.{op_named}
 use Rattle.nres_eval.specs.Ends.{onto}
 use Rattle.nres_eval.proofs.Paths.{behind, first_bind, next, onto_one, next_item}
 

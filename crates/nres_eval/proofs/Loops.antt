@@ -8,7 +8,7 @@ use Rattle.nres_core.specs.declared.place.Named.{Named}
 use Rattle.nres_core.specs.declared.value.Value.{Value}
 use Rattle.nres_core.specs.declared.value.Value.TheVariants as v
 use Rattle.nres_meaning.specs.Meaning.{Env, blk_runs, bound}
-use Rattle.nres_meaning.specs.Words.{op_named}
+use Rattle.nres_meaning.specs.WordOperations.{op_named}
 use Rattle.nres_eval.specs.Bodies.{each_runs, holds_runs, turns_runs}
 use Rattle.nres_eval.proofs.Paths.{behind, first_bind, next_item}
 

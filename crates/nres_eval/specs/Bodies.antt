@@ -8,7 +8,7 @@ use Rattle.nres_core.specs.declared.place.Named.{Named}
 use Rattle.nres_core.specs.declared.value.Value.{Value}
 use Rattle.nres_core.specs.declared.value.Value.TheVariants as v
 use Rattle.nres_meaning.specs.Meaning.{Env, apply, blk_runs, bound, each, exp_runs, head_of, listed, parts_out, turns, value_of}
-use Rattle.nres_meaning.specs.Words.{op_named}
+use Rattle.nres_meaning.specs.WordOperations.{op_named}
 
 -- ---- what parts of bodies may do, at a line and with these names
 

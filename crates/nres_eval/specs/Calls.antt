@@ -5,7 +5,7 @@ use Rattle.nres_core.specs.Runs.{Runs}
 use Rattle.nres_core.specs.declared.tree.Fun.{Fun}
 use Rattle.nres_core.specs.declared.value.Value.{Value}
 use Rattle.nres_meaning.specs.Meaning.{calls}
-use Rattle.nres_meaning.specs.Words.{op_named}
+use Rattle.nres_meaning.specs.WordOperations.{op_named}
 
 -- of these procedures, with so many turns of each loop, and so deep at most
 abbrev pub calls_of : List Fun → ℕ → ℕ → ℕ → List ℕ → List Value → Runs (List Value)

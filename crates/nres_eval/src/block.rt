@@ -5,7 +5,7 @@ ghost use Rattle.nres_core.specs.Mirror.{before, blk_of, bod_of, exp_of};
 ghost use Rattle.nres_core.specs.Runs.{first_path};
 ghost use Rattle.nres_core.specs.Tree.{Steps, Word};
 ghost use Rattle.nres_meaning.specs.Meaning.{blk_runs, bod_runs, bound, steps_runs};
-ghost use Rattle.nres_meaning.specs.Words.{op_named};
+ghost use Rattle.nres_meaning.specs.WordOperations.{op_named};
 ghost use Rattle.nres_eval.specs.Bodies.{each_runs, holds_runs, part_runs, turns_runs};
 ghost use Rattle.nres_eval.specs.Calls.{calls_of};
 ghost use Rattle.nres_eval.specs.Ends.{Leads, Tells};

@@ -6,7 +6,7 @@ ghost use Rattle.nres_core.specs.Ops.{calc_runs};
 ghost use Rattle.nres_core.specs.Runs.{first_path};
 ghost use Rattle.nres_meaning.specs.Meaning as meaning;
 ghost use Rattle.nres_meaning.specs.Meaning.{exp_runs, exps_runs, head_of};
-ghost use Rattle.nres_meaning.specs.Words.{op_named};
+ghost use Rattle.nres_meaning.specs.WordOperations.{op_named};
 ghost use Rattle.nres_eval.specs.Ends.{Tells};
 
 use crate::end::EvalEnd;

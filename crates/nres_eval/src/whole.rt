@@ -3,7 +3,7 @@
 ghost use Rattle.nres_core.specs.Mirror.{whole_of};
 ghost use Rattle.nres_core.specs.Runs.{first_path};
 ghost use Rattle.nres_meaning.specs.Meaning.{whole_runs};
-ghost use Rattle.nres_meaning.specs.Words.{op_named};
+ghost use Rattle.nres_meaning.specs.WordOperations.{op_named};
 ghost use Rattle.nres_eval.specs.Ends.{Tells};
 
 use crate::block::{Evaluation, block};

@@ -7,7 +7,7 @@ use Rattle.nres_core.specs.declared.tree.Chosen.{Chosen}
 use Rattle.std.specs.declared.alloc.AllocError.{AllocError}
 use Rattle.nres_core.specs.FlatTree as f
 use Rattle.nres_core.specs.FlatTree.{Binds, ◌+++◌, binds_of, before_of}
-use Rattle.nres_core.specs.Flatten.{Part, Parts, Scope, none, calc_part, flat_exp, flat_exps, unnamed}
+use Rattle.nres_rules.specs.Flatten.{Part, Parts, Scope, none, apply_part, calc_part, flat_exp, flat_exps, unnamed}
 use Rattle.nres_core.specs.Tree as t
 use Rattle.nres_core.specs.Tree.{Exp, Exps}
 use Rattle.nres_core.specs.declared.op.Op.{Op}
@@ -109,19 +109,25 @@ pub negated_ok : (p : Place) (x : List ℕ) (s : Scope) (l : IdExpr) (tree : IdE
 negated_ok p x s l tree b2 n2 e h (Ok u) m = negated p x s l tree e h m
 negated_ok p x s l tree b2 n2 e h (Err z) m = tt
 
-pub operated : (p : Place) (op : Op) (es zs : List IdExpr) (made : Option Chosen) (x : List ℕ) (s : Scope) (tree : IdExpr) (bs cs : List FlatBind) (us : List Arg) (outs : List ℕ) {k : ℕ} {m : Option Rep} {b0 : Binds} {n0 n1 n2 : List (List ℕ)}
-    → tree ≡ ide.Apply p op es made → zs ≡ es → AddsParts (flat_exps (all_id_exps zs) s (length n0)) us b0 (binds_of bs) n0 n1
-    → k ≡ length n1 → outs ≡ k ∷ [] → m ≡ rep_of made → cs ≡ bs ++ b.Apply p outs op m us ∷ [] → n2 ≡ n1 ++ x ∷ []
-    → AddsPart (flat_exp (id_exp_of tree) s x (length n0)) (a.Var k) b0 (binds_of cs) n0 n2
-operated p op es zs made x s tree bs cs us outs {k = k} {m = m} {b0 = b0} {n0 = n0} {n1 = n1} {n2 = n2} e z h i o r c n =
-    let fs = flat_exps (all_id_exps zs) s (length n0) in
-    let g = bound bs (b.Apply p outs op m us) x (λ rest. f.Apply_to p (fs.next ∷ []) op (rep_of made) fs.args rest)
+-- an operation behind its arguments
+pub applied : (p : Place) (op : Op) (m : Option Rep) (x : List ℕ) (q : Parts) (bs cs : List FlatBind) (us : List Arg) (outs : List ℕ) {k : ℕ} {b0 : Binds} {n0 n1 n2 : List (List ℕ)}
+    → AddsParts q us b0 (binds_of bs) n0 n1 → k ≡ length n1 → outs ≡ k ∷ [] → cs ≡ bs ++ b.Apply p outs op m us ∷ [] → n2 ≡ n1 ++ x ∷ []
+    → AddsPart (apply_part p op m x q) (a.Var k) b0 (binds_of cs) n0 n2
+applied p op m x q bs cs us outs h i o c n =
+    let g = bound bs (b.Apply p outs op m us) x (λ rest. f.Apply_to p (q.next ∷ []) op m q.args rest)
     (flat_mirrored.apply p outs op m us ∙ (ap {B = Binds → Binds} (λ j rest. f.Apply_to p j op m us rest) (o ∙ ap (λ j. j ∷ []) (i ∙ h.1.counted))
-    ∙ (ap {B = Binds → Binds} (λ j rest. f.Apply_to p (fs.next ∷ []) op j us rest) r ∙ ap {B = Binds → Binds} (λ j rest. f.Apply_to p (fs.next ∷ []) op (rep_of made) j rest) h.0))) c n in
+    ∙ ap {B = Binds → Binds} (λ j rest. f.Apply_to p (q.next ∷ []) op m j rest) h.0)) c n in
     let whole = then_ h.1 g in
+    (ap a.Var (i ∙ h.1.counted), record { binds = whole.binds; names = whole.names; counted = whole.counted ∙ ap suc h.1.counted })
+
+pub operated : (p : Place) (op : Op) (es zs : List IdExpr) (made : Option Chosen) (x : List ℕ) (s : Scope) (tree : IdExpr) (b0 b2 : Binds) (n0 n2 : List (List ℕ)) {m : Option Rep}
+    → tree ≡ ide.Apply p op es made → zs ≡ es → m ≡ rep_of made
+    → (r : Result Arg AllocError) → IfOk r (λ u. AddsPart (apply_part p op m x (flat_exps (all_id_exps zs) s (length n0))) u b0 b2 n0 n2) → IfOk r (λ u. AddsPart (flat_exp (id_exp_of tree) s x (length n0)) u b0 b2 n0 n2)
+operated p op es zs made x s tree b0 b2 n0 n2 e z i (Ok u) h =
     formed tree (t.Apply p op (all_id_exps es) made) s x (length n0) (ap id_exp_of e ∙ id_mirrored.apply p op es made)
-    (subst (λ y. AddsPart (flat_exp (t.Apply p op (all_id_exps y) made) s x (length n0)) (a.Var k) b0 (binds_of cs) n0 n2) z
-    (ap a.Var (i ∙ h.1.counted), record { binds = whole.binds; names = whole.names; counted = whole.counted ∙ ap suc h.1.counted }))
+    (subst (λ y. AddsPart (apply_part p op (rep_of made) x (flat_exps (all_id_exps y) s (length n0))) u b0 b2 n0 n2) z
+    (subst (λ w. AddsPart (apply_part p op w x (flat_exps (all_id_exps zs) s (length n0))) u b0 b2 n0 n2) i h))
+operated p op es zs made x s tree b0 b2 n0 n2 e z i (Err w) h = tt
 
 -- ---- several expressions
 

@@ -3,7 +3,7 @@ use Rattle.std.proofs.Common.{arith, ◌≡◌, ℕ, ◌+◌, ◌-◌, ◌<◌, 
 use Rattle.std.proofs.lemmas.List.{drop_all}
 use Rattle.nres_core.specs.FlatTree as f
 use Rattle.nres_core.specs.FlatTree.{Binds, ◌+++◌, binds_of, flats_of}
-use Rattle.nres_core.specs.Flatten.{Parts, Scope, flat_blk, flat_steps, flat_bod, flat_exp, flat_exps, flats, unnamed, place_of, scoped, tail_args, head_arg}
+use Rattle.nres_rules.specs.Flatten.{Parts, Scope, flat_blk, flat_steps, flat_bod, flat_exp, flat_exps, flats, unnamed, place_of, scoped, tail_args, head_arg}
 use Rattle.nres_core.specs.Mirror.{id_exp_of, id_blk_of, id_bod_of, id_before, all_id_exps, all_id_steps}
 use Rattle.nres_core.specs.Tree as t
 use Rattle.nres_core.specs.Tree.{Exp, Exps, Steps}

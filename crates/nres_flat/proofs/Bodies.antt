@@ -1,8 +1,8 @@
 -- What gives the results of a bind.
-use Rattle.std.proofs.Common.{◌≡◌, ℕ, suc, List, [], ◌∷◌, ◌++◌, length, append_assoc, None, ap, ◌∙◌, sym, subst}
+use Rattle.std.proofs.Common.{Result, IfOk, ◌≡◌, ℕ, suc, List, [], ◌∷◌, ◌++◌, length, append_assoc, None, ap, ◌∙◌, sym, subst}
 use Rattle.nres_core.specs.FlatTree as f
 use Rattle.nres_core.specs.FlatTree.{Binds, ◌+++◌, before_of, binds_of, flats_of}
-use Rattle.nres_core.specs.Flatten.{Scope, flat_blk, flat_bod, flat_exp, flat_exps, flats, fresh, vars, names_of, first_name, out, place_of, unnamed}
+use Rattle.nres_rules.specs.Flatten.{Scope, flat_blk, flat_bod, flat_exp, flat_exps, flats, fresh, vars, names_of, first_name, out, place_of, unnamed}
 use Rattle.nres_core.specs.Mirror.{id_exp_of, id_blk_of, id_bod_of, all_id_exps}
 use Rattle.nres_core.specs.Tree as t
 use Rattle.nres_core.specs.Tree.{Bod}
@@ -20,7 +20,9 @@ use Rattle.nres_core.specs.declared.place.Named.{Named}
 use Rattle.nres_core.specs.declared.place.Place.{Place}
 use Rattle.nres_core.proofs.FlatMirrored.{flat_mirrored}
 use Rattle.nres_core.proofs.Mirrored.{id_mirrored}
-use Rattle.nres_flat.specs.Adding.{AddsPart, AddsParts, AddsBlock}
+use Rattle.nres_flat.specs.Adding.{AddsPart, AddsParts, AddsBlock, AddsBody}
+use Rattle.nres_flat.specs.Heads.{AddsDivided, AddsFirst, AddsTested}
+use Rattle.nres_flat.specs.declared.divided.Cut.{Cut}
 use Rattle.nres_flat.proofs.Adding.{then_, bound}
 use Rattle.nres_flat.proofs.Joining.{regroup, nothing_behind, pushed}
 use Rattle.nres_flat.proofs.Lookups.{counted}
@@ -161,3 +163,20 @@ module _ (number : List ℕ → ℕ) where
       ∙ (ap (λ w. f.Call p w k y f.No_bind) tos ∙ (ap (λ w. f.Call p (fresh xs (length m)) w y f.No_bind) i ∙ ap (λ w. f.Call p (fresh xs (length m)) (number g.name) w f.No_bind) h2.0)) in
       shaped tree (t.Call p g (all_id_exps es)) s xs (length l) (ap id_bod_of e ∙ id_mirrored.call p g es)
       (outs_added xs q.binds q.names q.next (λ w. f.Call p w (number g.name) q.args f.No_bind) bs cs (b.Call p to k y) h2.1.binds h2.1.names h2.1.counted v n c d)
+
+  -- ---- from a scope that is the same
+
+  pub choice_in : (e : IdExpr) (bl : IdBlock) (tree : IdBody) (xs : List Named) (z : Binds) (n : List (List ℕ)) {E : Type 0} (r : Result (List Arg) E) {s2 s : Scope} {u : Arg} {b : FlatBlock} {x y : Binds} {l m : List (List ℕ)}
+      → s2 ≡ s → (AddsTested number e bl s2 u b x y l m → IfOk r (λ us. AddsBody number tree s2 xs us x z l n)) → AddsTested number e bl s u b x y l m → IfOk r (λ us. AddsBody number tree s xs us x z l n)
+  choice_in e bl tree xs z n r {u = u} {b = b} {x = x} {y = y} {l = l} {m = m} h f k =
+      subst (λ w. AddsTested number e bl w u b x y l m → IfOk r (λ us. AddsBody number tree w xs us x z l n)) h f k
+
+  pub first_in : (bl : IdBlock) (tree : IdBody) (xs : List Named) (x z : Binds) (l n : List (List ℕ)) {E : Type 0} (r : Result (List Arg) E) {s2 s : Scope} (b : FlatBlock) (m : List (List ℕ))
+      → s2 ≡ s → (AddsFirst number bl s2 b l m → IfOk r (λ us. AddsBody number tree s2 xs us x z l n)) → AddsFirst number bl s b l m → IfOk r (λ us. AddsBody number tree s xs us x z l n)
+  first_in bl tree xs x z l n r b m h f k = subst (λ w. AddsFirst number bl w b l m → IfOk r (λ us. AddsBody number tree w xs us x z l n)) h f k
+
+  pub divided_in : (list : Named) (e : IdExpr) (first : Named) (bl : IdBlock) (tree : IdBody) (xs : List Named) (z : Binds) (n : List (List ℕ)) {E : Type 0} (r : Result (List Arg) E) {s2 s : Scope} {cut : Cut} {b : ℕ × FlatBlock} {x y : Binds} {l m : List (List ℕ)}
+      → s2 ≡ s → (AddsDivided number list e first bl s2 cut b x y l m → IfOk r (λ us. AddsBody number tree s2 xs us x z l n))
+      → AddsDivided number list e first bl s cut b x y l m → IfOk r (λ us. AddsBody number tree s xs us x z l n)
+  divided_in list e first bl tree xs z n r {cut = cut} {b = b} {x = x} {y = y} {l = l} {m = m} h f k =
+      subst (λ w. AddsDivided number list e first bl w cut b x y l m → IfOk r (λ us. AddsBody number tree w xs us x z l n)) h f k

@@ -1,7 +1,7 @@
 -- What is looked up while a tree is flattened.
 use Rattle.std.proofs.Common.{◌≡◌, ℕ, zero, suc, ◌<◌, ◌≤◌, ◌+◌, ◌-◌, cond, Bool, true, false, List, [], ◌∷◌, ◌++◌, take, drop, length, get_or, Option, Some, None, append_assoc, length-append, refl, ap, ◌∙◌, sym, arith}
 use Rattle.std.proofs.Math.Seq.{drop-cons, take-suc}
-use Rattle.nres_core.specs.Flatten.{Scope, vars, fresh, beyond, names_of, arg_of, scoped, head_arg, tail_args}
+use Rattle.nres_rules.specs.Flatten.{Scope, vars, fresh, beyond, names_of, arg_of, scoped, head_arg, tail_args}
 use Rattle.nres_core.specs.Tree.{same_name}
 use Rattle.nres_core.specs.declared.flat.Arg.{Arg}
 use Rattle.nres_core.specs.declared.flat.Arg.TheVariants as a

@@ -3,7 +3,7 @@ use Rattle.std.proofs.Common.{◌≡◌, ℕ, suc, List, [], ◌∷◌, ◌++◌
 use Rattle.target_code.specs.declared.tree.Calc.TheVariants as c
 use Rattle.nres_core.specs.FlatTree as f
 use Rattle.nres_core.specs.FlatTree.{Binds, ◌+++◌, before_of, binds_of, flats_of}
-use Rattle.nres_core.specs.Flatten.{Parts, Scope, flat_blk, flat_bod, flat_exp, flat_exps, flats, fresh, beyond, vars, scoped, arg_of, names_of, split_bind, place_of, unnamed}
+use Rattle.nres_rules.specs.Flatten.{Parts, Scope, flat_blk, flat_bod, flat_exp, flat_exps, flats, fresh, beyond, vars, scoped, arg_of, names_of, split_bind, place_of, unnamed}
 use Rattle.nres_core.specs.Mirror.{id_exp_of, id_blk_of, id_bod_of, all_id_exps}
 use Rattle.nres_core.specs.Tree as t
 use Rattle.nres_core.specs.declared.flat.Arg.{Arg}

@@ -5,7 +5,7 @@ use Rattle.target_code.specs.declared.tree.InParam.{InParam}
 use Rattle.target_code.specs.declared.tree.Rep.{Rep}
 use Rattle.nres_core.specs.declared.tree.Param.{Param}
 use Rattle.nres_core.specs.declared.tree.Shown.{Shown}
-use Rattle.nres_core.specs.Flatten.{taken, shown_reps}
+use Rattle.nres_rules.specs.Flatten.{taken, shown_reps}
 
 one_more : {A : Type 0} (xs : List A) (i : ℕ) (x : A) → i < length xs → x ≡ get_or xs i x → take (i + 1) xs ≡ take i xs ++ x ∷ []
 one_more xs i x h e = let s1 : suc i ≡ i + 1 = omega arith in ap (λ j. take j xs) (sym s1) ∙ (take-suc xs i x h ∙ ap (λ y. take i xs ++ y ∷ []) (sym e))

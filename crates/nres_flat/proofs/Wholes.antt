@@ -6,7 +6,7 @@ use Rattle.std.proofs.lemmas.List.{drop_all}
 use Rattle.target_code.specs.declared.tree.InParam.{InParam}
 use Rattle.target_code.specs.declared.tree.Rep.{Rep}
 use Rattle.nres_core.specs.FlatTree.{Flats, FlatProc, FlatWhole, flats_of, flat_proc_of, flat_procs_of}
-use Rattle.nres_core.specs.Flatten.{Scope, flat_blk, scoped, vars, fresh, names_of, place_of, taken, shown_reps, flat_fun, flat_funs, fun_names, flat_of, index_of}
+use Rattle.nres_rules.specs.Flatten.{Scope, flat_blk, scoped, vars, fresh, names_of, place_of, taken, shown_reps, flat_fun, flat_funs, fun_names, flat_of, index_of}
 use Rattle.nres_core.specs.Mirror.{id_blk_of, named_params, id_procs_of}
 use Rattle.nres_core.specs.Tree.{same_name}
 use Rattle.nres_core.specs.declared.flat.Arg.TheVariants as a

@@ -5,7 +5,7 @@ use Rattle.target_code.specs.declared.tree.Calc.{Calc}
 use Rattle.target_code.specs.declared.tree.Calc.TheVariants as c
 use Rattle.nres_core.specs.FlatTree as f
 use Rattle.nres_core.specs.FlatTree.{Binds, ◌+++◌, Flats, flats_of}
-use Rattle.nres_core.specs.Flatten.{Part, Parts, Scope, none, calc_part, flat_bod, flats, entered, names_of, place_of, unnamed}
+use Rattle.nres_rules.specs.Flatten.{Part, Parts, Scope, none, calc_part, flat_bod, flats, entered, names_of, place_of, unnamed}
 use Rattle.nres_core.specs.Mirror.{id_blk_of, id_bod_of, named_params}
 use Rattle.nres_core.specs.declared.identified.IdBlock.{IdBlock}
 use Rattle.nres_core.specs.declared.identified.IdBody.{IdBody}

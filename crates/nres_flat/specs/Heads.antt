@@ -1,20 +1,46 @@
--- What stands before the block of a loop, and what behind it.
+-- What stands before the last block of a body, and what behind it.
 use Rattle.std.specs.Prelude.{◌≡◌, ℕ, suc, List, [], ◌∷◌, ◌++◌, length, None}
 use Rattle.target_code.specs.declared.tree.Calc.TheVariants as c
 use Rattle.nres_core.specs.FlatTree as f
 use Rattle.nres_core.specs.FlatTree.{Binds, ◌+++◌, binds_of}
-use Rattle.nres_core.specs.Flatten.{Scope, flat_exp, flat_exps, fresh, beyond, vars, scoped, names_of, unnamed}
+use Rattle.nres_rules.specs.Flatten.{Scope, arg_of, flat_blk, flat_exp, flat_exps, fresh, beyond, place_of, vars, scoped, names_of, unnamed}
+use Rattle.nres_core.specs.Mirror.{id_blk_of, id_exp_of}
 use Rattle.nres_core.specs.Tree.{Exp, Exps}
 use Rattle.nres_core.specs.declared.flat.Arg.{Arg}
 use Rattle.nres_core.specs.declared.flat.Arg.TheVariants as a
 use Rattle.nres_core.specs.declared.flat.FlatBind.{FlatBind}
+use Rattle.nres_core.specs.declared.flat.FlatBlock.{FlatBlock}
+use Rattle.nres_core.specs.declared.identified.IdBlock.{IdBlock}
+use Rattle.nres_core.specs.declared.identified.IdExpr.{IdExpr}
 use Rattle.nres_core.specs.declared.op.Op.{Op}
 use Rattle.nres_core.specs.declared.op.Op.TheVariants as o
 use Rattle.nres_core.specs.declared.place.Named.{Named}
 use Rattle.nres_core.specs.declared.place.Place.{Place}
-use Rattle.nres_flat.specs.Adding.{Adds, AddsPart, AddsParts, below, operation}
+use Rattle.nres_flat.specs.Adding.{Adds, AddsBlock, AddsNamed, AddsPart, AddsParts, below, operation}
+use Rattle.nres_flat.specs.declared.divided.Cut.{Cut}
 use Rattle.nres_flat.specs.declared.each.SetHead.{SetHead}
 use Rattle.nres_flat.specs.declared.looped.LoopHead.{LoopHead}
+
+-- ---- two blocks
+
+-- the first of two blocks
+abbrev pub AddsFirst : (List ℕ → ℕ) → IdBlock → Scope → FlatBlock → List (List ℕ) → List (List ℕ) → Type 0
+AddsFirst number bl s b before after = AddsBlock (flat_blk number (id_blk_of bl) s (length before)) (place_of (id_blk_of bl)) b before after
+
+-- the test of a choice, and then the first block
+pub record AddsTested (number : List ℕ → ℕ) (e : IdExpr) (bl : IdBlock) (s : Scope) (u : Arg) (b : FlatBlock) (old new : Binds) (before after : List (List ℕ)) : Type 0 where
+  pub tested : List (List ℕ)
+  pub test : AddsPart (flat_exp (id_exp_of e) s unnamed (length before)) u old new before tested
+  pub first : AddsFirst number bl s b tested after
+
+-- the place where the list is divided, and then the block on its first part, which has the name x
+pub record AddsDivided (number : List ℕ → ℕ) (y : Named) (e : IdExpr) (x : Named) (bl : IdBlock) (s : Scope) (cut : Cut) (b : ℕ × FlatBlock) (old new : Binds) (before after : List (List ℕ)) : Type 0 where
+  pub tested : List (List ℕ)
+  pub divided : cut.list ≡ arg_of s y.name
+  pub number_at : AddsPart (flat_exp (id_exp_of e) s unnamed (length before)) cut.at old new before tested
+  pub first : AddsNamed (flat_blk number (id_blk_of bl) ((x.name, a.Var (length tested)) ∷ s) (suc (length tested))) (place_of (id_blk_of bl)) x.name b tested after
+
+-- ---- loops
 
 -- the starting values, then the names of the variables, and with these in scope the condition by itself
 pub record BeginsLoop (ys : List Named) (es : Exps Op) (e : Exp Op) (s : Scope) (h : LoopHead) (old new : Binds) (before after : List (List ℕ)) : Type 0 where

@@ -2,7 +2,7 @@
 
 ghost use Rattle.std.specs.Prelude.{◌≡◌, suc, [], ◌∷◌, length, IfOk, OnOk};
 ghost use Rattle.nres_core.specs.FlatTree.{binds_of};
-ghost use Rattle.nres_core.specs.Flatten.{flat_blk, flat_steps, flat_exps, place_of};
+ghost use Rattle.nres_rules.specs.Flatten.{flat_blk, flat_steps, flat_exps, place_of};
 ghost use Rattle.nres_core.specs.Mirror.{id_blk_of, id_before, all_id_steps};
 ghost use Rattle.nres_core.specs.Tree.{Exps, Steps};
 ghost use Rattle.nres_core.specs.declared.flat.Arg.TheVariants as args;
@@ -12,7 +12,7 @@ ghost use Rattle.nres_flat.specs.Lookups.{number_in};
 
 use crate::body::body;
 use crate::divided::enter;
-use crate::expr::{expr, exprs};
+use crate::expr::{alone, exprs};
 use crate::known::bind_all;
 use crate::names::Names;
 use nres_core::{Arg, FlatBind, FlatBlock, IdBlock, IdStep, Named};
@@ -33,12 +33,17 @@ pub fn block<'a>(
     ensures scope { OnOk result (scope.new ≡ scope.old) }
 {
     let mut binds = Items::new(alloc);
-    let results = results(alloc, tree, scope, procedures, names, &mut binds)?;
-    Ok(FlatBlock {
-        binds,
-        place: tree.place,
-        results,
-    })
+    match results(alloc, tree, scope, procedures, names, &mut binds) {
+        Ok(results) => Ok(FlatBlock {
+            binds,
+            place: tree.place,
+            results,
+        }),
+        Err(error) => {
+            drop(binds);
+            Err(error)
+        }
+    }
 }
 
 /// A block that begins with a variable of this name, and the variable.
@@ -131,8 +136,7 @@ fn step<'a>(
             bind_all(scope, pattern, args.as_slice())
         }
         IdStep::Assert { place, test } => {
-            let mut inner = Items::new(alloc);
-            let test = expr(alloc, test, None, scope, names, &mut inner)?;
+            let (inner, test) = alone(alloc, test, scope, names)?;
             binds.push(FlatBind::Assert {
                 place: *place,
                 inner,

@@ -2,7 +2,7 @@
 
 ghost use Rattle.std.specs.Prelude.{◌≡◌, ◌∷◌, ◌++◌, [], length, IfOk, OnOk};
 ghost use Rattle.nres_core.specs.FlatTree.{No_bind, ◌+++◌, before_of, binds_of, flats_of};
-ghost use Rattle.nres_core.specs.Flatten.{Parts, flats, fresh, names_of, split_bind, vars as all_vars};
+ghost use Rattle.nres_rules.specs.Flatten.{Parts, flats, fresh, names_of, split_bind, vars as all_vars};
 ghost use Rattle.nres_core.specs.declared.flat.Arg.TheVariants as args;
 ghost use Rattle.nres_core.specs.declared.place.Place.{Place as PlaceOf};
 
@@ -58,11 +58,14 @@ fn split(
             right_var: right.0,
             right: right.1,
         },
-        _ => FlatBind::Assert {
-            place,
-            inner: Items::new(alloc),
-            test: Arg::Truth(false),
-        },
+        _ => {
+            drop((outs, left, right));
+            FlatBind::Assert {
+                place,
+                inner: Items::new(alloc),
+                test: Arg::Truth(false),
+            }
+        }
     }
 }
 
@@ -80,7 +83,14 @@ pub fn end_split(
     ensures binds { OnOk result ((l r : Parts) (p q : PlaceOf) → flats_of left.1 ≡ flats p l → flats_of right.1 ≡ flats q r → binds_of binds.new ≡ binds_of binds.old +++ split_bind cut.place (fresh pattern.now (length names.old)) cut.list cut.at left.0 l p right.0 r q) }
     ensures names { OnOk result (names.new ≡ names.old ++ names_of pattern.now) }
 {
-    let (outs, results) = outs(alloc, pattern, names)?;
-    binds.push(split(alloc, cut, outs, left, right))?;
-    Ok(results)
+    match outs(alloc, pattern, names) {
+        Ok((outs, results)) => {
+            binds.push(split(alloc, cut, outs, left, right))?;
+            Ok(results)
+        }
+        Err(error) => {
+            drop((left, right));
+            Err(error)
+        }
+    }
 }

@@ -3,7 +3,7 @@
 ghost use Rattle.std.specs.Prelude.{◌≡◌, ◌∷◌, ◌++◌, [], suc, length, IfOk, OnOk};
 ghost use Rattle.nres_core.specs.FlatTree.{binds_of};
 ghost use Rattle.nres_core.specs.FlatTree.{◌+++◌};
-ghost use Rattle.nres_core.specs.Flatten.{fresh, names_of, scoped, unnamed, vars as all_vars};
+ghost use Rattle.nres_rules.specs.Flatten.{fresh, names_of, scoped, unnamed, vars as all_vars};
 ghost use Rattle.nres_core.specs.Mirror.{all_id_exps};
 ghost use Rattle.nres_core.specs.declared.flat.Arg.TheVariants as args;
 ghost use Rattle.nres_core.specs.declared.flat.FlatBind.TheVariants as flat_binds;
@@ -107,6 +107,29 @@ fn condition(
     Ok(cond)
 }
 
+/// The index, the test and the element, which are new variables. From here on the loop's variables, which stand for these, and the element
+/// are in scope.
+fn enter_turn<'a>(
+    alloc: Global,
+    parts: &SetLoop<'a>,
+    held: &[Arg],
+    scope: &mut Scope<'a, Arg>,
+    names: &mut Names,
+) -> Result<(u32, u32, u32), AllocError>
+    ensures index { IfOk result (λ r. r.0 ≡ length names.old) }
+    ensures test { IfOk result (λ r. r.1 ≡ length (names.old ++ unnamed ∷ [])) }
+    ensures element { IfOk result (λ r. r.2 ≡ length ((names.old ++ unnamed ∷ []) ++ unnamed ∷ [])) }
+    ensures names { OnOk result (names.new ≡ ((names.old ++ unnamed ∷ []) ++ unnamed ∷ []) ++ parts.now.var.now.name ∷ []) }
+    ensures scope { IfOk result (λ r. scope.new ≡ scoped parts.now.vars.now held.now ((parts.now.var.now.name, args.Var r.2) ∷ scope.old)) }
+{
+    let index = names.bind(alloc, None)?;
+    let test = names.bind(alloc, None)?;
+    let element = names.bind(alloc, Some(&parts.var.name))?;
+    scope.bind(parts.var.name.bytes(), Arg::Var(element))?;
+    bind_all(scope, parts.vars, held)?;
+    Ok((index, test, element))
+}
+
 /// What stands before the block. From here on the loop's variables and the element are in scope.
 pub fn begin_each<'a>(
     alloc: Global,
@@ -124,11 +147,7 @@ pub fn begin_each<'a>(
     let count = operate(alloc, parts.place, Op::Len, list, names, binds)?;
     let starts = exprs(alloc, parts.starts, scope, names, binds)?;
     let (vars, held) = outs(alloc, parts.vars, names)?;
-    let index = names.bind(alloc, None)?;
-    let test = names.bind(alloc, None)?;
-    let element = names.bind(alloc, Some(&parts.var.name))?;
-    scope.bind(parts.var.name.bytes(), Arg::Var(element))?;
-    bind_all(scope, parts.vars, held.as_slice())?;
+    let (index, test, element) = enter_turn(alloc, parts, held.as_slice(), scope, names)?;
     Ok(SetHead {
         elements,
         count,
@@ -151,21 +170,111 @@ fn turn_block(
     ensures block { IfOk result (λ b. b ≡ roll-FlatBlock (record { binds = turn.0 ++ flat_binds.Calc place (length names.old) calcs.Add (args.Var index) (args.Num 1) ∷ []; place = turn.1; results = turn.2 ++ args.Var (length names.old) ∷ [] })) }
     ensures names { OnOk result (names.new ≡ names.old ++ unnamed ∷ []) }
 {
-    let out = names.bind(alloc, None)?;
+    match names.bind(alloc, None) {
+        Ok(out) => counted(place, index, out, turn),
+        Err(error) => {
+            drop(turn);
+            Err(error)
+        }
+    }
+}
+
+/// The block of a turn, which counts at its end into the variable.
+fn counted(
+    place: Place,
+    index: u32,
+    out: u32,
+    turn: (Items<FlatBind>, Place, Items<Arg>),
+) -> Result<FlatBlock, AllocError>
+    ensures { IfOk result (λ b. b ≡ roll-FlatBlock (record { binds = turn.0 ++ flat_binds.Calc place out calcs.Add (args.Var index) (args.Num 1) ∷ []; place = turn.1; results = turn.2 ++ args.Var out ∷ [] })) }
+{
     let (mut binds, at, mut results) = turn;
-    binds.push(FlatBind::Calc {
+    let next = FlatBind::Calc {
         place,
         out,
         word: Calc::Add,
         left: Arg::Var(index),
         right: Arg::Num(1),
-    })?;
-    results.push(Arg::Var(out))?;
-    Ok(FlatBlock {
-        binds,
-        place: at,
-        results,
-    })
+    };
+    match (binds.push(next), results.push(Arg::Var(out))) {
+        (Ok(()), Ok(())) => Ok(FlatBlock {
+            binds,
+            place: at,
+            results,
+        }),
+        _ => {
+            drop((binds, results));
+            Err(AllocError)
+        }
+    }
+}
+
+/// The condition of the loop, its variables with the index, and its starting values with that of the index.
+#[derive(Drop)]
+struct CountedParts {
+    cond: Items<FlatBind>,
+    vars: Items<u32>,
+    starts: Items<Arg>,
+}
+
+fn counting(alloc: Global, place: Place, head: SetHead) -> Result<CountedParts, AllocError>
+    ensures cond { IfOk result (λ r. binds_of r.cond ≡ below place head.test head.index head.count) }
+    ensures vars { IfOk result (λ r. r.vars ≡ head.vars ++ head.index ∷ []) }
+    ensures starts { IfOk result (λ r. r.starts ≡ head.starts ++ args.Num 0 ∷ []) }
+{
+    let SetHead {
+        count,
+        mut starts,
+        mut vars,
+        index,
+        test,
+        ..
+    } = head;
+    vars.push(index)?;
+    starts.push(Arg::Num(0))?;
+    let cond = condition(alloc, place, test, index, count)?;
+    Ok(CountedParts { cond, vars, starts })
+}
+
+/// The variables of the results, with the next index behind them, and what the results stand for.
+fn counted_outs(
+    alloc: Global,
+    pattern: &[Named],
+    names: &mut Names,
+) -> Result<(Items<u32>, Items<Arg>), AllocError>
+    ensures numbers { IfOk result (λ r. r.0 ≡ fresh pattern.now (length names.old) ++ length (names.old ++ names_of pattern.now) ∷ []) }
+    ensures args { IfOk result (λ r. r.1 ≡ all_vars (fresh pattern.now (length names.old))) }
+    ensures names { OnOk result (names.new ≡ (names.old ++ names_of pattern.now) ++ unnamed ∷ []) }
+{
+    let (mut numbers, results) = outs(alloc, pattern, names)?;
+    numbers.push(names.bind(alloc, None)?)?;
+    Ok((numbers, results))
+}
+
+/// The parts of the loop beside its block: the condition, the variables and the starting values, and the variables of the results, with
+/// what these stand for.
+fn loop_parts(
+    alloc: Global,
+    place: Place,
+    pattern: &[Named],
+    head: SetHead,
+    names: &mut Names,
+) -> Result<(CountedParts, (Items<u32>, Items<Arg>)), AllocError>
+    ensures cond { IfOk result (λ r. binds_of r.0.cond ≡ below place head.test head.index head.count) }
+    ensures vars { IfOk result (λ r. r.0.vars ≡ head.vars ++ head.index ∷ []) }
+    ensures starts { IfOk result (λ r. r.0.starts ≡ head.starts ++ args.Num 0 ∷ []) }
+    ensures numbers { IfOk result (λ r. r.1.0 ≡ fresh pattern.now (length names.old) ++ length (names.old ++ names_of pattern.now) ∷ []) }
+    ensures args { IfOk result (λ r. r.1.1 ≡ all_vars (fresh pattern.now (length names.old))) }
+    ensures names { OnOk result (names.new ≡ (names.old ++ names_of pattern.now) ++ unnamed ∷ []) }
+{
+    let counting = counting(alloc, place, head)?;
+    match counted_outs(alloc, pattern, names) {
+        Ok(outs) => Ok((counting, outs)),
+        Err(error) => {
+            drop(counting);
+            Err(error)
+        }
+    }
 }
 
 /// The loop, whose block has these binds, this place and these results, and what the results of the loop stand for.
@@ -182,27 +291,25 @@ pub fn end_each(
     ensures binds { OnOk result (binds_of binds.new ≡ binds_of binds.old +++ set_loop place pattern.now head turn.0 turn.1 turn.2 (length names.old)) }
     ensures names { OnOk result (names.new ≡ ((names.old ++ unnamed ∷ []) ++ names_of pattern.now) ++ unnamed ∷ []) }
 {
-    let body = turn_block(alloc, place, head.index, turn, names)?;
-    let (mut outs, results) = outs(alloc, pattern, names)?;
-    outs.push(names.bind(alloc, None)?)?;
-    let cond = condition(alloc, place, head.test, head.index, head.count)?;
-    let SetHead {
-        mut vars,
-        mut starts,
-        index,
-        test,
-        ..
-    } = head;
-    vars.push(index)?;
-    starts.push(Arg::Num(0))?;
-    binds.push(FlatBind::While {
-        place,
-        outs,
-        vars,
-        starts,
-        cond,
-        test: Arg::Var(test),
-        body,
-    })?;
-    Ok(results)
+    let (index, test) = (head.index, head.test);
+    let body = turn_block(alloc, place, index, turn, names)?;
+    match loop_parts(alloc, place, pattern, head, names) {
+        Ok((counting, (outs, results))) => {
+            let CountedParts { cond, vars, starts } = counting;
+            binds.push(FlatBind::While {
+                place,
+                outs,
+                vars,
+                starts,
+                cond,
+                test: Arg::Var(test),
+                body,
+            })?;
+            Ok(results)
+        }
+        Err(error) => {
+            drop(body);
+            Err(error)
+        }
+    }
 }

@@ -1,7 +1,7 @@
 //! The last bind of a body, for new variables with the names of a pattern, and what the results stand for.
 
 ghost use Rattle.std.specs.Prelude.{◌≡◌, ◌∷◌, ◌++◌, [], length, IfOk, OnOk};
-ghost use Rattle.nres_core.specs.Flatten.{vars as all_vars, fresh, names_of};
+ghost use Rattle.nres_rules.specs.Flatten.{vars as all_vars, fresh, names_of};
 ghost use Rattle.nres_core.specs.declared.flat.FlatBind.TheVariants as flat_binds;
 
 use crate::names::{Names, outs};
@@ -23,16 +23,23 @@ pub fn end_if(
     ensures binds { OnOk result (binds.new ≡ binds.old ++ flat_binds.If place (fresh pattern.now (length names.old)) test blocks.0 blocks.1 ∷ []) }
     ensures names { OnOk result (names.new ≡ names.old ++ names_of pattern.now) }
 {
-    let (outs, results) = outs(alloc, pattern, names)?;
-    let (yes, no) = blocks;
-    binds.push(FlatBind::If {
-        place,
-        outs,
-        test,
-        yes,
-        no,
-    })?;
-    Ok(results)
+    match outs(alloc, pattern, names) {
+        Ok((outs, results)) => {
+            let (yes, no) = blocks;
+            binds.push(FlatBind::If {
+                place,
+                outs,
+                test,
+                yes,
+                no,
+            })?;
+            Ok(results)
+        }
+        Err(error) => {
+            drop(blocks);
+            Err(error)
+        }
+    }
 }
 
 /// Two blocks side by side.
@@ -49,14 +56,21 @@ pub fn end_par(
     ensures binds { OnOk result (binds.new ≡ binds.old ++ flat_binds.Par place (fresh pattern.now (length names.old)) left right ∷ []) }
     ensures names { OnOk result (names.new ≡ names.old ++ names_of pattern.now) }
 {
-    let (outs, results) = outs(alloc, pattern, names)?;
-    binds.push(FlatBind::Par {
-        place,
-        outs,
-        left,
-        right,
-    })?;
-    Ok(results)
+    match outs(alloc, pattern, names) {
+        Ok((outs, results)) => {
+            binds.push(FlatBind::Par {
+                place,
+                outs,
+                left,
+                right,
+            })?;
+            Ok(results)
+        }
+        Err(error) => {
+            drop((left, right));
+            Err(error)
+        }
+    }
 }
 
 /// One block or the other.
@@ -73,14 +87,21 @@ pub fn end_either(
     ensures binds { OnOk result (binds.new ≡ binds.old ++ flat_binds.Either place (fresh pattern.now (length names.old)) left right ∷ []) }
     ensures names { OnOk result (names.new ≡ names.old ++ names_of pattern.now) }
 {
-    let (outs, results) = outs(alloc, pattern, names)?;
-    binds.push(FlatBind::Either {
-        place,
-        outs,
-        left,
-        right,
-    })?;
-    Ok(results)
+    match outs(alloc, pattern, names) {
+        Ok((outs, results)) => {
+            binds.push(FlatBind::Either {
+                place,
+                outs,
+                left,
+                right,
+            })?;
+            Ok(results)
+        }
+        Err(error) => {
+            drop((left, right));
+            Err(error)
+        }
+    }
 }
 
 /// A call of the procedure with this number.

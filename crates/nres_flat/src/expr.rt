@@ -1,14 +1,14 @@
 //! Expressions.
 
-ghost use Rattle.std.specs.Prelude.{◌≡◌, length, IfOk};
-ghost use Rattle.nres_core.specs.FlatTree.{binds_of};
-ghost use Rattle.nres_core.specs.Flatten.{flat_exp, flat_exps};
+ghost use Rattle.std.specs.Prelude.{◌≡◌, ℕ, List, length, IfOk};
+ghost use Rattle.nres_core.specs.FlatTree.{Binds, No_bind, binds_of};
+ghost use Rattle.nres_rules.specs.Flatten.{Parts, apply_part, flat_exp, flat_exps, unnamed};
 ghost use Rattle.nres_core.specs.Mirror.{id_exp_of, all_id_exps, rep_of as chosen_rep};
 ghost use Rattle.nres_flat.specs.Adding.{named, calculated, AddsPart, AddsParts};
 
 use crate::known::arg_at;
 use crate::names::Names;
-use nres_core::{Arg, Chosen, FlatBind, IdExpr, Place};
+use nres_core::{Arg, Chosen, FlatBind, IdExpr, Op, Place};
 use scopes::Scope;
 use sqlite_items::Items;
 use std::alloc::{AllocError, Global};
@@ -34,6 +34,31 @@ fn calculate(
         word,
         left,
         right,
+    })?;
+    Ok(Arg::Var(out))
+}
+
+/// Binds an operation on arguments to the next variable.
+fn apply(
+    alloc: Global,
+    place: Place,
+    op: Op,
+    made: Option<Rep>,
+    args: Items<Arg>,
+    name: Option<&Name>,
+    names: &mut Names,
+    binds: &mut Items<FlatBind>,
+) -> Result<Arg, AllocError>
+    ensures { (p : Parts) (x : Binds) (l : List (List ℕ)) → AddsParts p args x (binds_of binds.old) l names.old →
+        IfOk result (λ u. AddsPart (apply_part place op made (named name.entry) p) u x (binds_of binds.new) l names.new) }
+{
+    let out = names.bind(alloc, name)?;
+    binds.push(FlatBind::Apply {
+        place,
+        outs: Items::from_slice(alloc, &[out])?,
+        op,
+        made,
+        args,
     })?;
     Ok(Arg::Var(out))
 }
@@ -86,15 +111,8 @@ pub fn expr(
             made,
         } => {
             let args = exprs(alloc, args.as_slice(), scope, names, binds)?;
-            let out = names.bind(alloc, name)?;
-            binds.push(FlatBind::Apply {
-                place: *place,
-                outs: Items::from_slice(alloc, &[out])?,
-                op: *word,
-                made: rep_of(made),
-                args,
-            })?;
-            Ok(Arg::Var(out))
+            let made = rep_of(made);
+            apply(alloc, *place, *word, made, args, name, names, binds)
         }
     }
 }
@@ -115,4 +133,23 @@ pub fn exprs(
         args.push(expr(alloc, tree, None, scope, names, binds)?)?;
     }
     Ok(args)
+}
+
+/// What an expression stands for, with its binds by themselves.
+pub fn alone(
+    alloc: Global,
+    tree: &IdExpr,
+    scope: &Scope<Arg>,
+    names: &mut Names,
+) -> Result<(Items<FlatBind>, Arg), AllocError>
+    ensures { IfOk result (λ r. AddsPart (flat_exp (id_exp_of tree.now) scope.now unnamed (length names.old)) r.1 No_bind (binds_of r.0) names.old names.new) }
+{
+    let mut binds = Items::new(alloc);
+    match expr(alloc, tree, None, scope, names, &mut binds) {
+        Ok(arg) => Ok((binds, arg)),
+        Err(error) => {
+            drop(binds);
+            Err(error)
+        }
+    }
 }

@@ -1,7 +1,7 @@
 //! What names stand for.
 
 ghost use Rattle.std.specs.Prelude.{◌≡◌, OnOk, IfOk};
-ghost use Rattle.nres_core.specs.Flatten.{arg_of, scoped};
+ghost use Rattle.nres_rules.specs.Flatten.{arg_of, scoped};
 ghost use Rattle.nres_flat.specs.Lookups.{arg_number as arg_at_number, number_in, numbered};
 
 use crate::names::number;

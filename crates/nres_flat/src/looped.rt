@@ -2,12 +2,12 @@
 
 ghost use Rattle.std.specs.Prelude.{◌≡◌, ◌∷◌, ◌++◌, [], length, IfOk, OnOk};
 ghost use Rattle.nres_core.specs.FlatTree.{binds_of};
-ghost use Rattle.nres_core.specs.Flatten.{vars as all_vars, fresh, names_of, scoped};
+ghost use Rattle.nres_rules.specs.Flatten.{vars as all_vars, fresh, names_of, scoped};
 ghost use Rattle.nres_core.specs.Mirror.{id_exp_of, all_id_exps};
 ghost use Rattle.nres_core.specs.declared.flat.FlatBind.TheVariants as flat_binds;
 ghost use Rattle.nres_flat.specs.Heads.{BeginsLoop};
 
-use crate::expr::{expr, exprs};
+use crate::expr::{alone, exprs};
 use crate::known::bind_all;
 use crate::names::{Names, outs};
 use nres_core::{Arg, FlatBind, FlatBlock, IdExpr, Named, Place};
@@ -40,8 +40,7 @@ pub fn begin_loop<'a>(
     let starts = exprs(alloc, starts, scope, names, binds)?;
     let (numbers, variables) = outs(alloc, vars, names)?;
     bind_all(scope, vars, variables.as_slice())?;
-    let mut cond = Items::new(alloc);
-    let test = expr(alloc, test, None, scope, names, &mut cond)?;
+    let (cond, test) = alone(alloc, test, scope, names)?;
     Ok(LoopHead {
         starts,
         vars: numbers,
@@ -64,21 +63,28 @@ pub fn end_loop(
     ensures binds { OnOk result (binds.new ≡ binds.old ++ flat_binds.While place (fresh pattern.now (length names.old)) head.vars head.starts head.cond head.test body ∷ []) }
     ensures names { OnOk result (names.new ≡ names.old ++ names_of pattern.now) }
 {
-    let (outs, results) = outs(alloc, pattern, names)?;
-    let LoopHead {
-        starts,
-        vars,
-        cond,
-        test,
-    } = head;
-    binds.push(FlatBind::While {
-        place,
-        outs,
-        vars,
-        starts,
-        cond,
-        test,
-        body,
-    })?;
-    Ok(results)
+    match outs(alloc, pattern, names) {
+        Ok((outs, results)) => {
+            let LoopHead {
+                starts,
+                vars,
+                cond,
+                test,
+            } = head;
+            binds.push(FlatBind::While {
+                place,
+                outs,
+                vars,
+                starts,
+                cond,
+                test,
+                body,
+            })?;
+            Ok(results)
+        }
+        Err(error) => {
+            drop((head, body));
+            Err(error)
+        }
+    }
 }

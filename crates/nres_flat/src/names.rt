@@ -1,7 +1,7 @@
 //! The names of variables, which are numbered in the order in which they are bound.
 
 ghost use Rattle.std.specs.Prelude.{◌≡◌, ◌++◌, ◌∷◌, [], length, OnOk, IfOk};
-ghost use Rattle.nres_core.specs.Flatten.{fresh, names_of, unnamed, vars as all_vars};
+ghost use Rattle.nres_rules.specs.Flatten.{fresh, names_of, unnamed, vars as all_vars};
 ghost use Rattle.nres_flat.specs.Adding.{named};
 
 use nres_core::{Arg, Named};
@@ -19,7 +19,7 @@ pub struct Names {
 
 impl Model for Names {
     ghost use Rattle.std.specs.Prelude.{◌≡◌, List, ℕ};
-    ghost use Rattle.nres_core.specs.Flatten.{unnamed as no_name};
+    ghost use Rattle.nres_rules.specs.Flatten.{unnamed as no_name};
 
     ghost Value = { List (List ℕ) };
 

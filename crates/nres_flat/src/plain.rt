@@ -2,7 +2,7 @@
 
 ghost use Rattle.std.specs.Prelude.{◌≡◌, ℕ, List, length, IfOk};
 ghost use Rattle.nres_core.specs.FlatTree.{binds_of};
-ghost use Rattle.nres_core.specs.Flatten.{first_name};
+ghost use Rattle.nres_rules.specs.Flatten.{first_name};
 ghost use Rattle.nres_core.specs.declared.identified.IdBody.TheVariants as bodies;
 ghost use Rattle.nres_flat.specs.Adding.{named, AddsBody};
 

@@ -2,7 +2,7 @@
 
 ghost use Rattle.std.specs.Prelude.{◌≡◌, length, ◌++◌, IfOk, OnOk};
 ghost use Rattle.nres_core.specs.FlatTree.{flat_proc_of, flat_procs_of, flat_whole_of, flats_of};
-ghost use Rattle.nres_core.specs.Flatten.{flat_fun, flat_funs, flat_of, fun_names, taken as inputs_of, shown_reps};
+ghost use Rattle.nres_rules.specs.Flatten.{flat_fun, flat_funs, flat_of, fun_names, taken as inputs_of, shown_reps};
 ghost use Rattle.nres_core.specs.Mirror.{id_blk_of, named_params};
 ghost use Rattle.nres_flat.specs.Adding.{AddsEntered, entered_parts};
 ghost use Rattle.nres_flat.specs.Lookups.{number_in};
@@ -23,16 +23,23 @@ pub fn flatten(alloc: Global, tree: &Identified) -> Result<Flat, AllocError>
 {
     let procedures = procedures(alloc, tree.funs.as_slice())?;
     let mut names = Names::new(alloc)?;
-    let params = tree.params.as_slice();
-    let body = entered(alloc, params, &tree.body, &procedures, &mut names)?;
-    let funs = funs(alloc, tree.funs.as_slice(), &procedures, &mut names)?;
-    Ok(Flat {
-        params: taken(alloc, params)?,
-        shown: shown(alloc, tree.shown.as_slice())?,
-        body,
-        names: names.into_list(),
-        funs,
-    })
+    let list = tree.params.as_slice();
+    let params = taken(alloc, list)?;
+    let shown = shown(alloc, tree.shown.as_slice())?;
+    let body = entered(alloc, list, &tree.body, &procedures, &mut names)?;
+    match funs(alloc, tree.funs.as_slice(), &procedures, &mut names) {
+        Ok(funs) => Ok(Flat {
+            params,
+            shown,
+            body,
+            names: names.into_list(),
+            funs,
+        }),
+        Err(error) => {
+            drop(body);
+            Err(error)
+        }
+    }
 }
 
 /// The procedures, whose variables have the next numbers.
@@ -61,12 +68,15 @@ fn fun(
     ensures fun { IfOk result (λ f. flat_proc_of f ≡ flat_fun (number_in procedures.now) tree.now (length names.old)) }
     ensures names { OnOk result (AddsEntered (number_in procedures.now) tree.now.params tree.now.body names.old names.new) }
 {
-    let params = tree.params.as_slice();
-    let body = entered(alloc, params, &tree.body, procedures, names)?;
+    let list = tree.params.as_slice();
+    let name = tree.name.copy(alloc)?;
+    let params = taken(alloc, list)?;
+    let shown = shown(alloc, tree.shown.as_slice())?;
+    let body = entered(alloc, list, &tree.body, procedures, names)?;
     Ok(FlatFun {
-        name: tree.name.copy(alloc)?,
-        params: taken(alloc, params)?,
-        shown: shown(alloc, tree.shown.as_slice())?,
+        name,
+        params,
+        shown,
         body,
     })
 }

@@ -7,7 +7,7 @@ use Rattle.nres_core.specs.declared.value.Value.TheVariants as v
 use Rattle.nres_core.proofs.FirstTree.{plain_block, block_is}
 use Rattle.nres_meaning.specs.Allowed.{AllowedBy, FailsBy, spec_runs}
 use Rattle.nres_meaning.specs.Samples as s
-use Rattle.nres_meaning.specs.Words.{op_named}
+use Rattle.nres_meaning.specs.WordOperations.{op_named}
 
 abbrev plain : Whole Word
 plain = record { params = named_params first_tree.params; body = plain_block; procs = [] }

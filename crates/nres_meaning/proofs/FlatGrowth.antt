@@ -5,11 +5,11 @@ use Rattle.nres_core.specs.Ops.{truth_runs, nat_runs}
 use Rattle.nres_core.specs.Runs.{Runs, Done, Failed, Over, Choose, Between, ◌>>=◌}
 use Rattle.nres_core.specs.declared.value.Value.{Value}
 use Rattle.nres_core.specs.declared.value.Value.TheVariants as v
-use Rattle.nres_meaning.specs.Alike.{cut, choose}
+use Rattle.nres_meaning.specs.Alike.{Less, cut, choose}
 use Rattle.nres_meaning.specs.FlatMeaning.{Vars, arg_value, arg_values, put, puts, ended, binds_runs, proc_at, after, flat_calls, flat_runs, after_main}
 use Rattle.nres_meaning.specs.Meaning.{turns}
 use Rattle.nres_meaning.proofs.Growth.{if_less, sided_less, both_less, parts_less}
-use Rattle.nres_meaning.proofs.Steps.{Less, go, stays}
+use Rattle.nres_meaning.proofs.Steps.{go, stays}
 
 -- a loop whose test grows too
 loop_less : (n m l : ℕ) → n ≤ m → (test test' : List Value → Runs Bool) (body body' : List Value → Runs (List Value)) → ((vs : List Value) → Less (test vs) (test' vs)) → ((vs : List Value) → Less (body vs) (body' vs)) → (vs : List Value) → Less (turns n l test body vs) (turns m l test' body' vs)
@@ -26,7 +26,7 @@ branch_less : (x : Value) {r r' s s' : Runs (List Value)} → Less r r' → Less
 branch_less x h k = go (stays (truth_runs 0 x)) (λ b. if_less b h k)
 
 module _ (n m : ℕ) (le : n ≤ m) (call call' : ℕ → List Value → Runs (List Value)) (deeper : (f : ℕ) (vs : List Value) → Less (call f vs) (call' f vs)) where
-  binds_less : (b : Binds) (env : Vars) → Less (binds_runs n call b env) (binds_runs m call' b env)
+  pub binds_less : (b : Binds) (env : Vars) → Less (binds_runs n call b env) (binds_runs m call' b env)
   binds_less No_bind env = stays (Done env)
   binds_less (Calc_to p to w a b rest) env = go (stays _) (λ x. binds_less rest (put to x env))
   binds_less (Apply_to p to op made us rest) env = go (stays _) (λ vs. binds_less rest (puts to vs env))
@@ -51,7 +51,7 @@ proc_less f k j a h [] x = stays a
 proc_less zero k j a h (p ∷ ps) x = h p x
 proc_less (suc f) k j a h (p ∷ ps) x = proc_less f k j a h ps (after p x)
 
-calls_less : (ps : List FlatProc) (k n m : ℕ) → n ≤ m → (d e : ℕ) → d ≤ e → (f : ℕ) (vs : List Value) → Less (flat_calls ps k n d f vs) (flat_calls ps k m e f vs)
+pub calls_less : (ps : List FlatProc) (k n m : ℕ) → n ≤ m → (d e : ℕ) → d ≤ e → (f : ℕ) (vs : List Value) → Less (flat_calls ps k n d f vs) (flat_calls ps k m e f vs)
 calls_less ps k n m le zero e le2 f vs = cut tt
 calls_less ps k n m le (suc d) zero le2 f vs = absurd (omega arith)
 calls_less ps k n m le (suc d) (suc e) le2 f vs =

@@ -8,9 +8,9 @@ use Rattle.nres_core.specs.declared.op.Op.{Op}
 use Rattle.nres_core.specs.declared.op.Op.TheVariants as o
 use Rattle.nres_core.specs.declared.value.Value.{Value}
 use Rattle.nres_core.specs.declared.value.Value.TheVariants as v
-use Rattle.nres_meaning.specs.Alike.{cut, choose}
+use Rattle.nres_meaning.specs.Alike.{Less, cut, choose}
 use Rattle.nres_meaning.specs.Meaning.{turns, each, exp_runs, exps_runs, blk_runs, steps_runs, bod_runs, bound, value_of, called, calls, whole_runs, head_of, parts, listed, tested}
-use Rattle.nres_meaning.proofs.Steps.{Less, go, stays}
+use Rattle.nres_meaning.proofs.Steps.{go, stays}
 
 pub if_less : {A : Type 0} (b : Bool) {r r' s s' : Runs A} → Less r r' → Less s s' → Less (cond b r s) (cond b r' s')
 if_less true h k = h

@@ -6,7 +6,7 @@ use Rattle.nres_core.specs.Ops.{op_runs, op_out, calc_out, truth_runs, truth_out
 use Rattle.nres_core.specs.Tree as t
 use Rattle.nres_core.specs.Tree.{Exp, Exps, Blk, Steps, Bod, same_name}
 use Rattle.std.proofs.lemmas.List.Sorted.{IsPermutation-refl}
-use Rattle.numbers.specs.Sets as sets
+use Rattle.containers.specs.Sets as sets
 use Rattle.std.specs.FinMap as maps
 use Rattle.nres_core.specs.Ops.{fail_if, popped, one_of, found, least, taken}
 use Rattle.target_code.specs.declared.tree.Calc.{Calc}

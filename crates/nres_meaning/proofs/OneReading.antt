@@ -5,8 +5,8 @@ use Rattle.target_code.specs.Reserved.{reserved_words}
 use Rattle.nres_core.specs.Front.{front, number, sign}
 use Rattle.nres_core.specs.Samples.{first_text, at}
 use Rattle.nres_core.specs.Tokens.{Lexes, after, first}
-use Rattle.nres_core.specs.Words as w
-use Rattle.nres_core.specs.Words.{Tok, all_seen}
+use Rattle.nres_core.specs.Vocabulary as w
+use Rattle.nres_core.specs.Vocabulary.{Tok, all_seen}
 use Rattle.nres_core.specs.declared.place.Place.{Place}
 use Rattle.nres_core.specs.declared.token.Piece.{Piece}
 use Rattle.nres_core.specs.declared.token.Piece.TheVariants as piece

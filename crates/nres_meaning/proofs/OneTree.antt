@@ -5,8 +5,8 @@ use Rattle.nres_core.specs.Grammar as g
 use Rattle.nres_core.specs.Samples.{first_tree, first_step, first_body, first_word, first_results, at, var}
 use Rattle.nres_core.specs.Texts as x
 use Rattle.nres_core.specs.Tree.{same_name}
-use Rattle.nres_core.specs.Words as w
-use Rattle.nres_core.specs.Words.{Tok, place_of, arity, calc_word, is_empty_word, is_take_word, truth_word, plain_word, type_word, rep_word}
+use Rattle.nres_core.specs.Vocabulary as w
+use Rattle.nres_core.specs.Vocabulary.{Tok, place_of, arity, calc_word, is_empty_word, is_take_word, truth_word, plain_word, type_word, rep_word}
 use Rattle.nres_core.specs.declared.place.Named.{Named}
 use Rattle.nres_core.specs.declared.place.Place.{Place}
 use Rattle.nres_core.specs.declared.token.TokenKind.{TokenKind}

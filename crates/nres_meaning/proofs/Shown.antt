@@ -17,7 +17,7 @@ use Rattle.target_code.specs.declared.tree.Calc.TheVariants as c
 use Rattle.nres_meaning.specs.Allowed.{spec_runs}
 use Rattle.nres_meaning.specs.Meaning.{Env, turns, bound, exp_runs, exps_runs, blk_runs, calls, head_of}
 use Rattle.nres_meaning.specs.Samples as s
-use Rattle.nres_meaning.specs.Words.{op_named}
+use Rattle.nres_meaning.specs.WordOperations.{op_named}
 use Rattle.nres_meaning.proofs.Growth.{whole_less}
 use Rattle.nres_meaning.proofs.Steps.{fails}
 

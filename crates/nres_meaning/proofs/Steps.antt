@@ -3,7 +3,7 @@ use Rattle.std.proofs.Common.{◌≡◌, ℕ, refl, subst, ap}
 use Rattle.std.proofs.Math.Path.{fun_ext}
 use Rattle.nres_core.specs.Ops.{at_line}
 use Rattle.nres_core.specs.Runs.{Runs, Done, Failed, Over, Choose, ◌>>=◌, Gives, Fails, Overruns}
-use Rattle.nres_meaning.specs.Alike.{Alike, done, failed, over, cut, choose}
+use Rattle.nres_meaning.specs.Alike.{Alike, Less, done, failed, over, cut, choose}
 
 pub then : {A B C D : Type 0} {loose : Type 0} {R : A → B → Type 0} {S : C → D → Type 0} {r : Runs A} {s : Runs B} {f : A → Runs C} {g : B → Runs D} → Alike loose R r s → ((a : A) (b : B) → R a b → Alike loose S (f a) (g b)) → Alike loose S (r >>= f) (s >>= g)
 then (done h) k = k _ _ h
@@ -31,10 +31,6 @@ fails failed f = tt
 fails over f = absurd f
 fails (cut l) f = absurd f
 fails (choose h) f = (f.0, f.1, fails (h f.0 f.1) f.2)
-
--- with equal values at the leaves, and where the first may break off
-abbrev pub Less : {A : Type 0} → Runs A → Runs A → Type 0
-Less r s = Alike (Unit {0}) (λ a b. a ≡ b) r s
 
 pub go : {A B : Type 0} {r s : Runs A} {f g : A → Runs B} → Less r s → ((a : A) → Less (f a) (g a)) → Less (r >>= f) (s >>= g)
 go {f = f} {g = g} h k = then h (λ a b e. subst (λ z. Less (f a) (g z)) e (k a))

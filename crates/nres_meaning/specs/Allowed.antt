@@ -12,7 +12,7 @@ use Rattle.nres_core.specs.declared.tree.Spec.{Spec}
 use Rattle.nres_core.specs.declared.value.Value.{Value}
 use Rattle.nres_meaning.specs.FlatMeaning.{flat_runs}
 use Rattle.nres_meaning.specs.Meaning.{whole_runs}
-use Rattle.nres_meaning.specs.Words.{op_named, known}
+use Rattle.nres_meaning.specs.WordOperations.{op_named, known}
 
 -- a meaning for each number of turns, which also bounds how deep calls nest
 abbrev pub Meaning : Type 0

@@ -1,11 +1,12 @@
 -- Laws of the meaning, as facts.
 use Rattle.std.specs.Prelude.{◌≡◌, ℕ, ◌≤◌, List, Option}
-use Rattle.nres_core.specs.FlatTree.{FlatWhole}
+use Rattle.nres_core.specs.FlatTree.{Binds, FlatProc, FlatWhole}
 use Rattle.nres_core.specs.Runs.{Runs, ◌>>=◌, Gives, Fails, Overruns, Gave, Fell, Late, first_path, both}
 use Rattle.nres_core.specs.Tree.{Whole}
 use Rattle.nres_core.specs.declared.op.Op.{Op}
 use Rattle.nres_core.specs.declared.value.Value.{Value}
-use Rattle.nres_meaning.specs.FlatMeaning.{flat_runs}
+use Rattle.nres_meaning.specs.Alike.{Less}
+use Rattle.nres_meaning.specs.FlatMeaning.{Vars, binds_runs, flat_calls, flat_runs}
 use Rattle.nres_meaning.specs.Meaning.{whole_runs}
 
 -- with more turns and deeper calls a specification gives and fails no less
@@ -17,6 +18,17 @@ pub record Grows (W : Type 0) (op_of : W → Value → Option Op) : Type 0 where
 pub record FlatGrows : Type 0 where
   pub gives : (p : FlatWhole) (n m : ℕ) (us vs : List Value) → n ≤ m → Gives (flat_runs n n p us) vs → Gives (flat_runs m m p us) vs
   pub fails : (p : FlatWhole) (n m : ℕ) (us : List Value) → n ≤ m → Fails (flat_runs n n p us) → Fails (flat_runs m m p us)
+
+-- with more turns, and calls that do no less, binds do no less
+abbrev pub BindsGrow : Type 0
+BindsGrow =
+    (n m : ℕ) → n ≤ m → (call other : ℕ → List Value → Runs (List Value)) → ((f : ℕ) (vs : List Value) → Less (call f vs) (other f vs))
+    → (b : Binds) (env : Vars) → Less (binds_runs n call b env) (binds_runs m other b env)
+
+-- with more turns calls that may nest deeper do no less
+abbrev pub CallsGrow : Type 0
+CallsGrow =
+    (ps : List FlatProc) (k n m : ℕ) → n ≤ m → (d e : ℕ) → d ≤ e → (f : ℕ) (vs : List Value) → Less (flat_calls ps k n d f vs) (flat_calls ps k m e f vs)
 
 -- the first path is a path: its results are given, its failure is one, its overrun is one
 pub record FirstIsOne (W : Type 0) (op_of : W → Value → Option Op) : Type 0 where

@@ -4,4 +4,4 @@ pub mod FlatMeaning
 pub mod Laws
 pub mod Meaning
 pub mod Samples
-pub mod Words
+pub mod WordOperations

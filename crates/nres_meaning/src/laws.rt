@@ -6,16 +6,19 @@ ghost use Rattle.nres_core.specs.declared.op.Op.{Op};
 ghost use Rattle.nres_core.specs.declared.value.Value.{Value};
 ghost use Rattle.nres_meaning.specs.Laws as laws;
 ghost use Rattle.nres_meaning.specs.Samples as samples;
-ghost use Rattle.nres_meaning.specs.Words.{op_named, known};
+ghost use Rattle.nres_meaning.specs.WordOperations.{op_named, known};
 
 /// With more turns and deeper calls a specification gives and fails no less.
 pub fn grows()
     ensures { laws.Grows Word op_named × laws.Grows Op known }
 {}
 
-/// So it is of a flat specification.
+/// So it is of a flat specification, and of its binds and its calls: with more turns and deeper calls they go in step with
+/// what they did, which alone may break off.
 pub fn flat_grows()
-    ensures { laws.FlatGrows }
+    ensures whole { laws.FlatGrows }
+    ensures binds { laws.BindsGrow }
+    ensures calls { laws.CallsGrow }
 {}
 
 /// The path of the first choices is a path.

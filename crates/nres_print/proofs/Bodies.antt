@@ -5,8 +5,8 @@ use Rattle.nres_core.specs.Front as at_front
 use Rattle.nres_core.specs.Front.{front}
 use Rattle.nres_core.specs.Grammar as g
 use Rattle.nres_core.specs.Grammar.{IsWhole, IsWholeAtom, AreResults, AreOthers, IsPattern, AreArgs, IsBlock, AreSteps, IsStep, IsBody}
-use Rattle.nres_core.specs.Typed.{is_free_name}
-use Rattle.nres_core.specs.Words.{Tok, word, named, place_of, is_take_word}
+use Rattle.nres_core.specs.Vocabulary.{is_free_name}
+use Rattle.nres_core.specs.Vocabulary.{Tok, word, named, place_of, is_take_word}
 use Rattle.nres_core.specs.declared.place.Named.{Named}
 use Rattle.nres_core.specs.declared.place.Place.{Place}
 use Rattle.nres_core.specs.declared.token.TokenKind.TheVariants as kind

@@ -6,8 +6,8 @@ use Rattle.nres_core.specs.Front as at_front
 use Rattle.nres_core.specs.Front.{front}
 use Rattle.nres_core.specs.Texts as x
 use Rattle.nres_core.specs.Texts.{IsContainer, IsOne, IsParam, AreMoreParams, AreParams, AreMoreShown, AreShown, param}
-use Rattle.nres_core.specs.Typed.{is_free_name}
-use Rattle.nres_core.specs.Words.{Tok, sign, place_of}
+use Rattle.nres_core.specs.Vocabulary.{is_free_name}
+use Rattle.nres_core.specs.Vocabulary.{Tok, sign, place_of}
 use Rattle.nres_core.specs.declared.place.Place.{Place}
 use Rattle.nres_core.specs.declared.token.TokenKind.TheVariants as kind
 use Rattle.nres_core.specs.declared.tree.Param.{Param}
@@ -16,7 +16,7 @@ use Rattle.nres_core.specs.declared.ty.Ty.TheVariants as ty
 use Rattle.nres_print.specs.Alike as a
 use Rattle.nres_print.specs.Alike.{Each, AlikeParam, AlikeShown}
 use Rattle.nres_print.specs.Heads.{param_text, shown_text}
-use Rattle.nres_print.specs.Words.{bracketed, grouped}
+use Rattle.nres_print.specs.Spellings.{bracketed, grouped}
 use Rattle.nres_print.proofs.Expressions.{Printed, RepIs, is_rep, rep_printed, as_shows, chosen_shows, open_shows, close_shows}
 use Rattle.nres_print.proofs.Fronts.{is_word, word_shows, name_shows}
 use Rattle.nres_print.proofs.Lexing.{Anything, Closed, Nothing, nothing, IsTok, here, Seq, seq, One, Shows, also, same_text, wherever, then_, then_any, nothing_shows, token_shows, spaced, line}

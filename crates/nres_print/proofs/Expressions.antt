@@ -8,8 +8,8 @@ use Rattle.nres_core.specs.Front as at_front
 use Rattle.nres_core.specs.Front.{front}
 use Rattle.nres_core.specs.Grammar as g
 use Rattle.nres_core.specs.Grammar.{IsRep, IsExpr, IsAtom, AreAtoms, IsWhole, IsWholeAtom, is_chain, chosen}
-use Rattle.nres_core.specs.Typed.{is_free_name}
-use Rattle.nres_core.specs.Words.{Tok, word, sign, named, place_of, arity, calc_word, is_empty_word, binary_sign}
+use Rattle.nres_core.specs.Vocabulary.{is_free_name}
+use Rattle.nres_core.specs.Vocabulary.{Tok, word, sign, named, place_of, arity, calc_word, is_empty_word, binary_sign}
 use Rattle.nres_core.specs.declared.place.Place.{Place}
 use Rattle.nres_core.specs.declared.token.Piece.TheVariants as piece
 use Rattle.nres_core.specs.declared.token.TokenKind.TheVariants as kind
@@ -19,7 +19,8 @@ use Rattle.nres_core.specs.declared.tree.Expr.TheVariants.{outs-Num, outs-Truth,
 use Rattle.nres_print.specs.Alike as a
 use Rattle.nres_print.specs.Alike.{AlikeExpr, AllExprs, AlikeChosen}
 use Rattle.nres_print.specs.Exprs.{expr_text, plain_text, plain_at, level_at, in_brackets, atoms_at, front_text, between_text, whole_text}
-use Rattle.nres_print.specs.Words.{left_level, right_level, looseness, truth_text, rep_text}
+use Rattle.target_code.specs.Texts.{rep_text}
+use Rattle.nres_print.specs.Spellings.{left_level, right_level, looseness, truth_text}
 use Rattle.nres_print.proofs.Fronts.{word_shows, name_shows, number_shows, word_no_equal, free_no_equal, number_no_equal}
 use Rattle.nres_print.proofs.Layers.{expr_layer}
 use Rattle.nres_print.proofs.Lexing.{Closed, Nothing, nothing, IsTok, here, Seq, seq, One, Shows, also, same_text, then_, then_any, nothing_shows, token_shows, spaced}

@@ -11,7 +11,7 @@ use Rattle.target_code.specs.Names.{is_name, is_name_byte, is_name_start}
 use Rattle.target_code.specs.Reserved.{is_reserved}
 use Rattle.nres_core.specs.Front as at_front
 use Rattle.nres_core.specs.Front.{front, is_blank, value_from}
-use Rattle.nres_core.specs.Typed.{is_free_name}
+use Rattle.nres_core.specs.Vocabulary.{is_free_name}
 use Rattle.nres_core.specs.declared.token.Piece.{Piece}
 use Rattle.nres_core.specs.declared.token.Piece.TheVariants as piece
 use Rattle.nres_core.specs.declared.token.TokenKind.TheVariants as kind

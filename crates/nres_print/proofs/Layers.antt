@@ -9,7 +9,7 @@ use Rattle.nres_core.specs.declared.tree.Expr.TheFolds.{fold_out-Expr}
 use Rattle.nres_core.specs.declared.tree.Expr.TheOpen.{Expr-F}
 use Rattle.nres_core.specs.declared.tree.Step.{Step, out-Step}
 use Rattle.nres_print.specs.Exprs.{expr_text, text_at, text_step, atoms_at, chosen_text, in_brackets, results_text}
-use Rattle.nres_print.specs.Words.{indent}
+use Rattle.target_code.specs.Texts.{indent}
 use Rattle.nres_print.specs.Blocks.{Text, body_text, step_text, block_text, body_at, step_at, block_at, steps_at, body_step, step_step, block_step}
 
 -- ---- expressions

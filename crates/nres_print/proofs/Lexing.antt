@@ -6,12 +6,12 @@ use Rattle.std.proofs.lemmas.List.{append-nil, length-append}
 use Rattle.target_code.specs.Names.{is_name_byte}
 use Rattle.nres_core.specs.Front.{front}
 use Rattle.nres_core.specs.Tokens.{Lexes, after, next, first}
-use Rattle.nres_core.specs.Words.{Tok, all_seen}
+use Rattle.nres_core.specs.Vocabulary.{Tok, all_seen}
 use Rattle.nres_core.specs.declared.place.Place.{Place}
 use Rattle.nres_core.specs.declared.token.Piece.TheVariants as piece
 use Rattle.nres_core.specs.declared.token.Token.{Token}
 use Rattle.nres_core.specs.declared.token.TokenKind.{TokenKind}
-use Rattle.nres_print.specs.Words.{indent}
+use Rattle.target_code.specs.Texts.{indent}
 
 -- the text z, which stands behind pre in the whole, has these tokens
 pub record Seen (whole pre z : List ℕ) (p : Place) (us : List Tok) : Type 0 where

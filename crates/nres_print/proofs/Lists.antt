@@ -5,8 +5,8 @@ use Rattle.nres_core.specs.Front as at_front
 use Rattle.nres_core.specs.Front.{front}
 use Rattle.nres_core.specs.Grammar as g
 use Rattle.nres_core.specs.Grammar.{IsWhole, AreLater, AreResults, AreOthers, IsPattern, AreArgs}
-use Rattle.nres_core.specs.Typed.{is_free_name}
-use Rattle.nres_core.specs.Words.{Tok, sign, name, named}
+use Rattle.nres_core.specs.Vocabulary.{is_free_name}
+use Rattle.nres_core.specs.Vocabulary.{Tok, sign, name, named}
 use Rattle.nres_core.specs.declared.place.Named.{Named}
 use Rattle.nres_core.specs.declared.place.Place.{Place}
 use Rattle.nres_core.specs.declared.token.TokenKind.TheVariants as kind
@@ -15,7 +15,7 @@ use Rattle.nres_print.specs.Alike as a
 use Rattle.nres_print.specs.Alike.{Each, AlikeNamed, AlikeExpr, AllExprs}
 use Rattle.nres_print.specs.Exprs.{whole_text, results_text}
 use Rattle.nres_print.specs.Heads.{name_text, pattern_text}
-use Rattle.nres_print.specs.Words.{listed, grouped}
+use Rattle.nres_print.specs.Spellings.{listed, grouped}
 use Rattle.nres_print.proofs.Expressions.{Printed, whole_printed, open_shows, close_shows}
 use Rattle.nres_print.proofs.Fronts.{name_shows}
 use Rattle.nres_print.proofs.Lexing.{Anything, Closed, IsTok, here, Seq, seq, One, Shows, also, same_text, wherever, then_, then_any, token_shows, spaced}

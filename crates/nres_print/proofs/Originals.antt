@@ -10,8 +10,8 @@ use Rattle.target_code.specs.Reserved.{is_reserved}
 use Rattle.nres_core.specs.Front as at_front
 use Rattle.nres_core.specs.Front.{front, value_from}
 use Rattle.nres_core.specs.Tokens.{Lexes}
-use Rattle.nres_core.specs.Typed.{is_free_name}
-use Rattle.nres_core.specs.Words.{Tok, all_seen}
+use Rattle.nres_core.specs.Vocabulary.{is_free_name}
+use Rattle.nres_core.specs.Vocabulary.{Tok, all_seen}
 use Rattle.nres_core.specs.declared.place.Place.{Place}
 use Rattle.nres_core.specs.declared.token.Piece.{Piece}
 use Rattle.nres_core.specs.declared.token.Piece.TheVariants as piece

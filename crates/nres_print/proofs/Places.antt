@@ -11,7 +11,8 @@ use Rattle.nres_core.specs.declared.place.Named.{Named}
 use Rattle.nres_core.specs.declared.tree.Param.{Param}
 use Rattle.nres_core.specs.declared.tree.Shown.{Shown}
 use Rattle.nres_core.specs.declared.tree.Fun.{Fun}
-use Rattle.nres_print.specs.Words.{listed, grouped, bracketed, left_level, right_level, type_text, rep_text, looseness, indent}
+use Rattle.target_code.specs.Texts.{rep_text, indent}
+use Rattle.nres_print.specs.Spellings.{listed, grouped, bracketed, left_level, right_level, type_text, looseness}
 use Rattle.nres_print.specs.Heads.{name_text, pattern_text, param_text, shown_text, head_text, kept_text}
 use Rattle.nres_print.specs.Exprs.{expr_text, whole_text, results_text, atoms_at, chosen_text, front_text, between_text, in_brackets}
 use Rattle.nres_print.specs.Blocks.{body_text, step_text, block_text, steps_at, inner_text, fun_text, funs_text}

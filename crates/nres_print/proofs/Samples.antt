@@ -4,7 +4,7 @@ use Rattle.std.proofs.lemmas.Fmt.{decimal_digit}
 use Rattle.nres_core.specs.Samples.{first_tree, first_step, first_body, first_word, first_results, at, var}
 use Rattle.nres_core.specs.declared.tree.Expr.{Expr}
 use Rattle.nres_core.specs.declared.tree.Expr.TheVariants as expr
-use Rattle.nres_print.specs.Words.{indent}
+use Rattle.target_code.specs.Texts.{indent}
 use Rattle.nres_print.specs.Heads.{head_text}
 use Rattle.nres_print.specs.Exprs.{expr_text}
 use Rattle.nres_print.specs.Blocks.{body_text, step_text, block_text}

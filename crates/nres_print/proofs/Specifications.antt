@@ -4,7 +4,7 @@ use Rattle.target_code.specs.Reserved.{reserved_words}
 use Rattle.nres_core.specs.Grammar.{IsBlock}
 use Rattle.nres_core.specs.Texts as x
 use Rattle.nres_core.specs.Texts.{AreParams, AreShown, IsSpec, AreFuns, IsFile, SpecText}
-use Rattle.nres_core.specs.Words.{Tok}
+use Rattle.nres_core.specs.Vocabulary.{Tok}
 use Rattle.nres_core.specs.declared.place.Place.{Place}
 use Rattle.nres_core.specs.declared.token.TokenKind.TheVariants as kind
 use Rattle.nres_core.specs.declared.tree.Block.{Block}

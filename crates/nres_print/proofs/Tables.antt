@@ -2,7 +2,7 @@
 use Rattle.std.proofs.Common.{◌≡◌, ℕ, suc, ◌≤◌, Bool, true, false, cond, ◌&&◌, ◌==◌, if◌then◌else◌, nat_le, List, [], ◌∷◌, ◌++◌, length, Some, refl, ap, ◌∙◌, sym, subst, codes, decimal, arith}
 use Rattle.std.proofs.lemmas.Bool.{and_parts, eqb-true, leb-true}
 use Rattle.std.proofs.lemmas.Slice.Eq.{bytes_eq-Decides}
-use Rattle.std.specs.List.{list_all}
+use Rattle.std.specs.Option.{is_some}
 use Rattle.target_code.specs.Reserved.{reserved_words}
 use Rattle.target_code.specs.declared.tree.Calc.{Calc}
 use Rattle.target_code.specs.declared.tree.Calc.TheVariants as calc
@@ -12,64 +12,31 @@ use Rattle.nres_core.specs.Front as at_front
 use Rattle.nres_core.specs.Front.{front}
 use Rattle.nres_core.specs.Grammar.{is_chain}
 use Rattle.nres_core.specs.Tree.{same_name}
-use Rattle.nres_core.specs.Words.{in_table, arity, calc_word, is_empty_word, is_take_word, truth_word, plain_word, type_word, rep_word, bound_word, binary_sign}
+use Rattle.nres_core.specs.Operations.{meant_arity, meant_is_bare, meant_is_taking}
+use Rattle.nres_core.proofs.OperationsLemmas.{tabled, tested, on_operations}
+use Rattle.nres_core.specs.Vocabulary.{arity, calc_word, is_empty_word, is_take_word, truth_word, plain_word, type_word, rep_word, bound_word, binary_sign}
 use Rattle.nres_core.specs.declared.token.Piece.TheVariants as piece
 use Rattle.nres_core.specs.declared.token.TokenKind.TheVariants as kind
 use Rattle.nres_core.specs.declared.ty.Ty.{Ty}
 use Rattle.nres_core.specs.declared.ty.Ty.TheVariants as ty
 use Rattle.nres_print.specs.Exprs.{front_text, between_text}
-use Rattle.nres_print.specs.Words.{calc_text, looseness, left_level, truth_text, rep_text, type_text}
+use Rattle.target_code.specs.Texts.{rep_text}
+use Rattle.nres_print.specs.Spellings.{calc_text, looseness, left_level, truth_text, type_text}
 use Rattle.nres_print.proofs.Fronts.{is_word}
-
--- ---- what is found in a table
-
-abbrev AllOf : {A : Type 0} → (List ℕ → A → Type 0) → List (List ℕ × A) → Type 0
-AllOf P [] = Unit {0}
-AllOf P (e ∷ es) = P e.0 e.1 × AllOf P es
-
-found : {A : Type 0} (P : List ℕ → A → Type 0) (es : List (List ℕ × A)) (w : List ℕ) (x : A) → AllOf P es → in_table w es ≡ Some x → P w x
-found P [] w x h e = absurd cc
-found {A = A} P (e ∷ es) w x h i = go (same_name w e.0) refl (λ j. found P es w x h.1 j) i
-  where
-    go : (b : Bool) → same_name w e.0 ≡ b → (in_table w es ≡ Some x → P w x) → cond b (Some e.1) (in_table w es) ≡ Some x → P w x
-    go true s f j =
-        let y : e.1 ≡ x = cc in
-        subst (P w) y (subst (λ v. P v e.1) (sym ((bytes_eq-Decides w e.0).0 s)) h.0)
-    go false s f j = f j
-
-all_of : {A : Type 0} (p : List ℕ → A → Bool) (es : List (List ℕ × A)) → list_all (λ e. p e.0 e.1) es ≡ true → AllOf (λ x y. p x y ≡ true) es
-all_of p [] h = tt
-all_of p (e ∷ es) h = let g = and_parts (p e.0 e.1) (list_all (λ e. p e.0 e.1) es) h in (g.0, all_of p es g.1)
-
-tested : {A : Type 0} (p : List ℕ → A → Bool) (es : List (List ℕ × A)) (w : List ℕ) (x : A) → list_all (λ e. p e.0 e.1) es ≡ true → in_table w es ≡ Some x → p w x ≡ true
-tested p es w x h e = found (λ v y. p v y ≡ true) es w x (all_of p es h) e
 
 -- ---- words
 
-arities : List (List ℕ × ℕ)
-arities =
-    (codes "len", 1) ∷ (codes "copy", 1) ∷ (codes "size", 1) ∷ (codes "pick", 1) ∷ (codes "elems", 1) ∷ (codes "keys", 1) ∷ (codes "minimum", 1)
-    ∷ (codes "get", 2) ∷ (codes "push", 2) ∷ (codes "has", 2) ∷ (codes "insert", 2) ∷ (codes "remove", 2) ∷ (codes "union", 2) ∷ (codes "lookup", 2)
-    ∷ (codes "del", 2) ∷ (codes "add", 2) ∷ (codes "set", 3) ∷ (codes "swap", 3) ∷ (codes "put", 3) ∷ []
-
 pub operation_is_word : (w : List ℕ) (n : ℕ) → arity w ≡ Some n → is_word w ≡ true
-unfolding arity arities reserved_words
-operation_is_word w n e = tested (λ x y. is_word x) arities w n refl e
-
-either_word : (w x y : List ℕ) → is_word x ≡ true → is_word y ≡ true → cond (same_name w x) true (same_name w y) ≡ true → is_word w ≡ true
-either_word w x y h i e = go (same_name w x) refl e
-  where
-    go : (b : Bool) → same_name w x ≡ b → cond b true (same_name w y) ≡ true → is_word w ≡ true
-    go true s j = ap is_word ((bytes_eq-Decides w x).0 s) ∙ h
-    go false s j = ap is_word ((bytes_eq-Decides w y).0 j) ∙ i
+unfolding arity reserved_words
+operation_is_word w n e = on_operations is_word (λ z. is_some (meant_arity z)) refl refl w (ap is_some e)
 
 pub empty_is_word : (w : List ℕ) → is_empty_word w ≡ true → is_word w ≡ true
 unfolding is_empty_word reserved_words
-empty_is_word w e = either_word w (codes "nil") (codes "empty") refl refl e
+empty_is_word w e = on_operations is_word meant_is_bare refl refl w e
 
 pub take_is_word : (w : List ℕ) → is_take_word w ≡ true → is_word w ≡ true
 unfolding is_take_word reserved_words
-take_is_word w e = either_word w (codes "pop") (codes "take_min") refl refl e
+take_is_word w e = on_operations is_word meant_is_taking refl refl w e
 
 pub truth_is_word : (b : Bool) → is_word (truth_text b) ≡ true
 unfolding reserved_words
@@ -95,7 +62,7 @@ calc_words = (codes "min", calc.Min) ∷ (codes "max", calc.Max) ∷ []
 
 pub calc_is_word : (s : List ℕ) (w : Calc) → calc_word s ≡ Some w → IsCalcWord s w
 unfolding calc_word calc_words reserved_words
-calc_is_word s w e = found IsCalcWord calc_words s w (record { is_word = refl; text = λ a b. refl; loose = refl; left = refl }, (record { is_word = refl; text = λ a b. refl; loose = refl; left = refl }, tt)) e
+calc_is_word s w e = tabled IsCalcWord s calc_words w (record { is_word = refl; text = λ a b. refl; loose = refl; left = refl }, (record { is_word = refl; text = λ a b. refl; loose = refl; left = refl }, tt)) e
 
 -- a sign stands between its two sides
 pub record IsSign (s : List ℕ) (w : Calc) (m : ℕ) : Type 0 where
@@ -129,7 +96,7 @@ sign_of _ h = absurd (omega (arith, h))
 pub sign_is : (s : List ℕ) (w : Calc) (m : ℕ) → binary_sign s ≡ Some (w, m) → IsSign s w m
 unfolding binary_sign signs
 sign_is s w m e =
-    let f = tested (λ x y. (same_name (calc_text y.0) x && looseness y.0 == y.1) && nat_le 1 (looseness y.0)) signs s (w, m) refl e in
+    let f = tested (λ x y. (same_name (calc_text y.0) x && looseness y.0 == y.1) && nat_le 1 (looseness y.0)) s signs (w, m) refl e in
     let g = and_parts (same_name (calc_text w) s && looseness w == m) (nat_le 1 (looseness w)) f in
     let h = and_parts (same_name (calc_text w) s) (looseness w == m) g.0 in
     subst (λ x. IsSign x w m) ((bytes_eq-Decides (calc_text w) s).0 h.0) (subst (λ n. IsSign (calc_text w) w n) (eqb-true (looseness w) m h.1) (sign_of w (leb-true 1 (looseness w) g.1)))
@@ -146,7 +113,7 @@ pub record IsText (s t : List ℕ) : Type 0 where
 pub rep_is : (s : List ℕ) (x : Rep) → rep_word s ≡ Some x → IsText s (rep_text x)
 unfolding rep_word reps reserved_words
 rep_is s x e =
-    let g = and_parts (is_word s) (same_name (rep_text x) s) (tested (λ y z. is_word y && same_name (rep_text z) y) reps s x refl e) in
+    let g = and_parts (is_word s) (same_name (rep_text x) s) (tested (λ y z. is_word y && same_name (rep_text z) y) s reps x refl e) in
     record { is_word = g.0; text = (bytes_eq-Decides (rep_text x) s).0 g.1 }
 
 bounds : ℕ → List (List ℕ × Rep)
@@ -158,14 +125,14 @@ pub record IsBounded (s : List ℕ) (u : ℕ) (x : Rep) : Type 0 where
 
 pub bound_is : (s : List ℕ) (u : ℕ) (x : Rep) → bound_word s u ≡ Some x → IsBounded s u x
 unfolding bound_word bounds reserved_words
-bound_is s u x e = found (λ y z. IsBounded y u z) (bounds u) s x (record { is_word = refl; text = refl }, (record { is_word = refl; text = refl }, tt)) e
+bound_is s u x e = tabled (λ y z. IsBounded y u z) s (bounds u) x (record { is_word = refl; text = refl }, (record { is_word = refl; text = refl }, tt)) e
 
 plains : List (List ℕ × (Ty × Rep))
 plains = (codes "nat", (ty.Nat, rep.Word)) ∷ (codes "bool", (ty.Bool, rep.Flag)) ∷ []
 
 pub plain_is : (s : List ℕ) (t : Ty) (x : Rep) → plain_word s ≡ Some (t, x) → IsText s (type_text t x)
 unfolding plain_word plains reserved_words
-plain_is s t x e = found (λ y z. IsText y (type_text z.0 z.1)) plains s (t, x) (record { is_word = refl; text = refl }, (record { is_word = refl; text = refl }, tt)) e
+plain_is s t x e = tabled (λ y z. IsText y (type_text z.0 z.1)) s plains (t, x) (record { is_word = refl; text = refl }, (record { is_word = refl; text = refl }, tt)) e
 
 types : List (List ℕ × Ty)
 types = (codes "list", ty.List) ∷ (codes "set", ty.Set) ∷ (codes "map", ty.Map) ∷ (codes "bag", ty.Bag) ∷ []
@@ -177,5 +144,5 @@ pub record IsHolder (s : List ℕ) (t : Ty) : Type 0 where
 pub type_is : (s : List ℕ) (t : Ty) → type_word s ≡ Some t → IsHolder s t
 unfolding type_word types reserved_words
 type_is s t e =
-    found IsHolder types s t
+    tabled IsHolder s types t
     (record { is_word = refl; text = λ x. refl }, (record { is_word = refl; text = λ x. refl }, (record { is_word = refl; text = λ x. refl }, (record { is_word = refl; text = λ x. refl }, tt)))) e

@@ -8,7 +8,8 @@ use Rattle.nres_core.specs.declared.tree.Body.TheOpen as Open
 use Rattle.nres_core.specs.declared.tree.Fun.{Fun}
 use Rattle.nres_core.specs.declared.tree.Spec.{Spec}
 use Rattle.nres_core.specs.declared.tree.Step.{Step}
-use Rattle.nres_print.specs.Words.{indent, bracketed}
+use Rattle.target_code.specs.Texts.{indent}
+use Rattle.nres_print.specs.Spellings.{bracketed}
 use Rattle.nres_print.specs.Heads.{name_text, pattern_text, head_text}
 use Rattle.nres_print.specs.Exprs.{expr_text, whole_text, results_text}
 

@@ -6,7 +6,8 @@ use Rattle.nres_core.specs.declared.tree.Chosen.{Chosen}
 use Rattle.nres_core.specs.declared.tree.Expr.{Expr, out-Expr}
 use Rattle.nres_core.specs.declared.tree.Expr.TheOpen.{Expr-F}
 use Rattle.nres_core.specs.declared.tree.Expr.TheFolds.{fold-Expr}
-use Rattle.nres_print.specs.Words.{calc_text, looseness, left_level, right_level, truth_text, rep_text, grouped}
+use Rattle.target_code.specs.Texts.{rep_text}
+use Rattle.nres_print.specs.Spellings.{calc_text, looseness, left_level, right_level, truth_text, grouped}
 
 -- the level from which on an expression stands without brackets: 0 is an atom, 1 an application or `!`, and m + 1 an expression of looseness m
 abbrev pub level_at : {A : Type 0} → Expr-F A → ℕ

@@ -3,7 +3,7 @@ use Rattle.std.specs.Prelude.{ℕ, Bool, true, false, List, [], ◌++◌, codes}
 use Rattle.nres_core.specs.declared.place.Named.{Named}
 use Rattle.nres_core.specs.declared.tree.Param.{Param}
 use Rattle.nres_core.specs.declared.tree.Shown.{Shown}
-use Rattle.nres_print.specs.Words.{bracketed, grouped, type_text}
+use Rattle.nres_print.specs.Spellings.{bracketed, grouped, type_text}
 
 abbrev pub kept_text : Bool → List ℕ
 kept_text true = codes " kept"

@@ -1,4 +1,4 @@
-pub mod Words
+pub mod Spellings
 pub mod Heads
 pub mod Exprs
 pub mod Blocks

@@ -5,11 +5,12 @@ ghost use Rattle.nres_print.specs.Blocks as texts;
 ghost use Rattle.nres_print.specs.Exprs.{expr_text, whole_text, results_text};
 ghost use Rattle.nres_print.specs.Heads.{name_text, pattern_text};
 ghost use Rattle.nres_print.specs.ReadsBack as back;
-ghost use Rattle.nres_print.specs.Words.{bracketed};
+ghost use Rattle.nres_print.specs.Spellings.{bracketed};
 
 use crate::{exprs, heads, words};
 use nres_core::{Block, Body, Expr, Fun, Named, Spec, Step};
 use std::alloc::{AllocError, Global};
+use target_code::push_indent;
 
 /// The canonical text of a specification: the one way in which it is printed. Values for its parameters are no part of it.
 /// Of a tree of the grammar, places aside, the text reads back as the same tree, places aside, within the same limits.
@@ -70,7 +71,7 @@ fn block(out: &mut Vec<u8>, block: &Block, level: u64) -> Result<(), AllocError>
     ensures { OnOk result (out.new.items ≡ out.old.items ++ texts.block_text block.now level) }
 {
     steps(out, block.steps.as_slice(), level)?;
-    words::indent(out, level)?;
+    push_indent(out, level)?;
     out.extend_from_slice(b"return ")?;
     exprs::results(out, block.results.as_slice())?;
     out.extend_from_slice(b"\n")
@@ -90,7 +91,7 @@ fn steps(out: &mut Vec<u8>, list: &[Step], level: u64) -> Result<(), AllocError>
 fn step(out: &mut Vec<u8>, step: &Step, level: u64) -> Result<(), AllocError>
     ensures { OnOk result (out.new.items ≡ out.old.items ++ texts.step_text step.now level) }
 {
-    words::indent(out, level)?;
+    push_indent(out, level)?;
     match step {
         Step::Bind { names, body, .. } => {
             heads::pattern(out, names.as_slice())?;
@@ -156,7 +157,7 @@ fn inner(out: &mut Vec<u8>, inside: &Block, level: u64, word: &[u8]) -> Result<(
     let deeper = deeper(level)?;
     out.extend_from_slice(b"\n")?;
     block(out, inside, deeper)?;
-    words::indent(out, level)?;
+    push_indent(out, level)?;
     out.extend_from_slice(word)
 }
 

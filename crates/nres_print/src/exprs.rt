@@ -2,12 +2,12 @@
 
 ghost use Rattle.std.specs.Prelude.{◌≡◌, ◌++◌, OnOk};
 ghost use Rattle.nres_print.specs.Exprs as spec;
-ghost use Rattle.nres_print.specs.Words.{listed, bracketed};
+ghost use Rattle.nres_print.specs.Spellings.{listed, bracketed};
 
 use crate::words;
 use nres_core::{Chosen, Expr};
 use std::alloc::AllocError;
-use target_code::Calc;
+use target_code::{Calc, push_number, push_rep};
 
 /// Whether an expression stands without brackets where the level is wanted.
 fn stands(e: &Expr, level: u8) -> bool
@@ -40,7 +40,7 @@ fn plain(out: &mut Vec<u8>, e: &Expr) -> Result<(), AllocError>
     ensures { OnOk result (out.new.items ≡ out.old.items ++ spec.plain_text e.now) }
 {
     match e {
-        Expr::Num { value, .. } => words::number(out, *value),
+        Expr::Num { value, .. } => push_number(out, *value),
         Expr::Truth { value, .. } => out.extend_from_slice(words::truth(*value)),
         Expr::Var(named) => out.extend_from_slice(named.name.bytes()),
         Expr::Binary {
@@ -114,7 +114,7 @@ fn chosen(out: &mut Vec<u8>, made: Option<Chosen>) -> Result<(), AllocError>
         None => Ok(()),
         Some(chosen) => {
             out.extend_from_slice(b" as ")?;
-            words::rep(out, chosen.rep)
+            push_rep(out, chosen.rep)
         }
     }
 }

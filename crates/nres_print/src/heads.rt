@@ -2,7 +2,7 @@
 
 ghost use Rattle.std.specs.Prelude.{◌≡◌, ◌++◌, OnOk};
 ghost use Rattle.nres_print.specs.Heads as spec;
-ghost use Rattle.nres_print.specs.Words.{listed, bracketed, grouped};
+ghost use Rattle.nres_print.specs.Spellings.{listed, bracketed, grouped};
 
 use crate::words;
 use nres_core::{Named, Param, Shown};

@@ -1,29 +1,12 @@
 //! Words, numbers and blanks.
 
 ghost use Rattle.std.specs.Prelude.{◌≡◌, ◌≤◌, ◌++◌, decimal, OnOk};
-ghost use Rattle.nres_print.specs.Words as spec;
+ghost use Rattle.nres_print.specs.Spellings as spec;
+ghost use Rattle.target_code.specs.Texts.{rep_text};
 
-use itoa::Buffer;
 use nres_core::Ty;
 use std::alloc::AllocError;
-use target_code::{Calc, Rep};
-
-pub fn number(out: &mut Vec<u8>, number: u64) -> Result<(), AllocError>
-    ensures { OnOk result (out.new.items ≡ out.old.items ++ decimal number) }
-{
-    let mut buffer = Buffer::new();
-    out.extend_from_slice(buffer.format(number).as_bytes())
-}
-
-/// Two spaces for each open block.
-pub fn indent(out: &mut Vec<u8>, level: u64) -> Result<(), AllocError>
-    ensures { OnOk result (out.new.items ≡ out.old.items ++ spec.indent level) }
-{
-    for _ in 0..level {
-        out.extend_from_slice(b"  ")?;
-    }
-    Ok(())
-}
+use target_code::{Calc, Rep, push_rep};
 
 /// The sign or the word of a calculation.
 pub fn calc(word: Calc) -> &'static [u8]
@@ -81,35 +64,13 @@ pub fn truth(value: bool) -> &'static [u8]
     if value { b"true" } else { b"false" }
 }
 
-pub fn rep(out: &mut Vec<u8>, rep: Rep) -> Result<(), AllocError>
-    ensures { OnOk result (out.new.items ≡ out.old.items ++ spec.rep_text rep) }
-{
-    match rep {
-        Rep::Word => out.extend_from_slice(b"word"),
-        Rep::Flag => out.extend_from_slice(b"flag"),
-        Rep::Array => out.extend_from_slice(b"array"),
-        Rep::Slice => out.extend_from_slice(b"slice"),
-        Rep::Vec => out.extend_from_slice(b"vec"),
-        Rep::Bits(limit) => {
-            out.extend_from_slice(b"bits ")?;
-            number(out, u64::from(limit))
-        }
-        Rep::Hset => out.extend_from_slice(b"hset"),
-        Rep::Amap(limit) => {
-            out.extend_from_slice(b"amap ")?;
-            number(out, u64::from(limit))
-        }
-        Rep::Hmap => out.extend_from_slice(b"hmap"),
-        Rep::Heap => out.extend_from_slice(b"heap"),
-    }
-}
-
 /// A type of containers, with its representation.
-fn container(out: &mut Vec<u8>, word: &[u8], held: Rep) -> Result<(), AllocError>
-    ensures { OnOk result (out.new.items ≡ out.old.items ++ (word.now ++ spec.rep_text held)) }
+fn container(out: &mut Vec<u8>, ty: Ty, held: Rep) -> Result<(), AllocError>
+    ensures { OnOk result (out.new.items ≡ out.old.items ++ spec.held_text ty held) }
 {
-    out.extend_from_slice(word)?;
-    rep(out, held)
+    out.extend_from_slice(ty.word())?;
+    out.extend_from_slice(b" as ")?;
+    push_rep(out, held)
 }
 
 /// A type with its representation.
@@ -117,11 +78,7 @@ pub fn held(out: &mut Vec<u8>, ty: Ty, rep: Rep) -> Result<(), AllocError>
     ensures { OnOk result (out.new.items ≡ out.old.items ++ spec.type_text ty rep) }
 {
     match ty {
-        Ty::Nat => out.extend_from_slice(b"nat"),
-        Ty::Bool => out.extend_from_slice(b"bool"),
-        Ty::List => container(out, b"list as ", rep),
-        Ty::Set => container(out, b"set as ", rep),
-        Ty::Map => container(out, b"map as ", rep),
-        Ty::Bag => container(out, b"bag as ", rep),
+        Ty::Nat | Ty::Bool => out.extend_from_slice(ty.word()),
+        Ty::List | Ty::Set | Ty::Map | Ty::Bag => container(out, ty, rep),
     }
 }

@@ -8,16 +8,16 @@ use Rattle.nres_core.specs.declared.tree.Body.TheVariants as bodies
 use Rattle.nres_core.specs.declared.tree.Step.{Step}
 use Rattle.nres_core.specs.declared.tree.Step.TheVariants as kinds
 use Rattle.nres_syntax.specs.Bodies.{inner, step_mode}
-use Rattle.nres_machine.specs.Cursor.{behind, Takes}
-use Rattle.nres_machine.specs.Lexemes.{Lex, construct_of, is_fixed}
-use Rattle.nres_machine.specs.Machine.{Mode, pass, leave, pattern, results, body, steps, whole, whole_atom, block_of, go, Next, open_bracket, pattern_at, steps_at, body_at, whole_at, if_body, while_body, par_body, split_body, either_body, foreach_body, call_body, Left, Moves, Fails}
-use Rattle.nres_machine.specs.declared.lexeme.Construct.{Construct}
-use Rattle.nres_machine.specs.declared.lexeme.Construct.TheVariants as construct
-use Rattle.nres_machine.specs.declared.lexeme.Fixed.TheVariants as fixed
-use Rattle.nres_machine.specs.declared.lexeme.Lexeme.{Lexeme}
-use Rattle.nres_machine.specs.declared.lexeme.Lexeme.TheVariants as x
-use Rattle.nres_machine.specs.declared.refusal.SyntaxRefusal.TheVariants as refusal
-use Rattle.nres_machine.proofs.Going.{Sees, alike, goes, deepens, positive}
+use Rattle.nres_automaton.specs.Cursor.{behind, Takes}
+use Rattle.nres_automaton.specs.Lexemes.{Lex, construct_of, is_fixed}
+use Rattle.nres_automaton.specs.Automaton.{Mode, pass, leave, pattern, results, body, steps, whole, whole_atom, block_of, go, Next, open_bracket, pattern_at, steps_at, body_at, whole_at, if_body, while_body, par_body, split_body, either_body, foreach_body, call_body, Left, Moves, Fails}
+use Rattle.nres_automaton.specs.declared.lexeme.Construct.{Construct}
+use Rattle.nres_automaton.specs.declared.lexeme.Construct.TheVariants as construct
+use Rattle.nres_automaton.specs.declared.lexeme.Fixed.TheVariants as fixed
+use Rattle.nres_automaton.specs.declared.lexeme.Lexeme.{Lexeme}
+use Rattle.nres_automaton.specs.declared.lexeme.Lexeme.TheVariants as x
+use Rattle.nres_automaton.specs.declared.refusal.SyntaxRefusal.TheVariants as refusal
+use Rattle.nres_automaton.proofs.Going.{Sees, alike, goes, deepens, positive}
 
 -- ---- bodies that hold blocks
 

@@ -7,16 +7,16 @@ use Rattle.nres_core.specs.declared.place.Place.{Place}
 use Rattle.nres_core.specs.declared.tree.Fun.{Fun}
 use Rattle.nres_core.specs.declared.tree.Spec.{Spec}
 use Rattle.nres_core.specs.declared.tree.With.{With}
-use Rattle.nres_machine.specs.Cursor.{behind, Takes}
+use Rattle.nres_automaton.specs.Cursor.{behind, Takes}
 use Rattle.nres_syntax.specs.Files.{Gives, GivesFile}
-use Rattle.nres_machine.specs.Lexemes.{Lex}
-use Rattle.nres_machine.specs.Machine.{Found, Mode, withs, with_of, funs, fun_of, headed, spec_of, start, Next, go, done, stop, withs_at, funs_at, start_at, finished, accepted, Left, Moves, Fails, run}
-use Rattle.nres_machine.specs.declared.lexeme.Fixed.TheVariants as fixed
-use Rattle.nres_machine.specs.declared.lexeme.Lexeme.{Lexeme}
-use Rattle.nres_machine.specs.declared.lexeme.Lexeme.TheVariants as x
-use Rattle.nres_machine.specs.declared.refusal.SyntaxRefusal.{SyntaxRefusal}
-use Rattle.nres_machine.specs.declared.refusal.SyntaxRefusal.TheVariants as refusal
-use Rattle.nres_machine.proofs.Going.{Sees, proceed, run-cons, alike, goes, stops}
+use Rattle.nres_automaton.specs.Lexemes.{Lex}
+use Rattle.nres_automaton.specs.Automaton.{Found, Mode, withs, with_of, funs, fun_of, headed, spec_of, start, Next, go, done, stop, withs_at, funs_at, start_at, finished, accepted, Left, Moves, Fails, run}
+use Rattle.nres_automaton.specs.declared.lexeme.Fixed.TheVariants as fixed
+use Rattle.nres_automaton.specs.declared.lexeme.Lexeme.{Lexeme}
+use Rattle.nres_automaton.specs.declared.lexeme.Lexeme.TheVariants as x
+use Rattle.nres_automaton.specs.declared.refusal.SyntaxRefusal.{SyntaxRefusal}
+use Rattle.nres_automaton.specs.declared.refusal.SyntaxRefusal.TheVariants as refusal
+use Rattle.nres_automaton.proofs.Going.{Sees, proceed, run-cons, alike, goes, stops}
 
 -- ---- values for parameters
 

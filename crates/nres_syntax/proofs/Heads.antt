@@ -11,15 +11,15 @@ use Rattle.nres_core.specs.declared.tree.Shown.{Shown}
 use Rattle.nres_core.specs.declared.ty.Ty.{Ty}
 use Rattle.nres_core.specs.declared.ty.Ty.TheVariants as ty
 use Rattle.nres_syntax.specs.Bodies.{ReadsTo}
-use Rattle.nres_machine.specs.Cursor.{behind, Takes}
-use Rattle.nres_machine.specs.Lexemes.{Lex, type_of}
-use Rattle.nres_machine.specs.Machine.{Mode, name, typed, container, more_params, param_read, shown, first_shown, more_shown, shown_read, shown_as, leave, step, go, stop, open_bracket, typed_at, shown_at, Left, Moves, Fails, run}
-use Rattle.nres_machine.specs.declared.lexeme.Fixed.TheVariants as fixed
-use Rattle.nres_machine.specs.declared.lexeme.Lexeme.{Lexeme}
-use Rattle.nres_machine.specs.declared.lexeme.Lexeme.TheVariants as x
-use Rattle.nres_machine.specs.declared.refusal.SyntaxRefusal.{SyntaxRefusal}
-use Rattle.nres_machine.specs.declared.refusal.SyntaxRefusal.TheVariants as refusal
-use Rattle.nres_machine.proofs.Going.{Sees, same, alike, goes, stops, deepens, positive}
+use Rattle.nres_automaton.specs.Cursor.{behind, Takes}
+use Rattle.nres_automaton.specs.Lexemes.{Lex, type_of}
+use Rattle.nres_automaton.specs.Automaton.{Mode, name, typed, container, more_params, param_read, shown, first_shown, more_shown, shown_read, shown_as, leave, step, go, stop, open_bracket, typed_at, shown_at, Left, Moves, Fails, run}
+use Rattle.nres_automaton.specs.declared.lexeme.Fixed.TheVariants as fixed
+use Rattle.nres_automaton.specs.declared.lexeme.Lexeme.{Lexeme}
+use Rattle.nres_automaton.specs.declared.lexeme.Lexeme.TheVariants as x
+use Rattle.nres_automaton.specs.declared.refusal.SyntaxRefusal.{SyntaxRefusal}
+use Rattle.nres_automaton.specs.declared.refusal.SyntaxRefusal.TheVariants as refusal
+use Rattle.nres_automaton.proofs.Going.{Sees, same, alike, goes, stops, deepens, positive}
 
 -- ---- types
 

@@ -2,7 +2,7 @@
 use Rattle.std.proofs.Common.{◌≡◌, ℕ, ◌≤◌, Bool, true, false, cond, List, [], ◌∷◌, ◌++◌, refl, sym, ap, ◌∙◌, ◌⊎◌, inl, inr, arith}
 use Rattle.std.proofs.lemmas.Bool.{le-leb}
 use Rattle.std.proofs.lemmas.Bool.Decides.{leb_tells}
-use Rattle.numbers.specs.Bag.{Bag, bag_of, added, place, sorted_list, same_bag}
+use Rattle.containers.specs.Bag.{Bag, bag_of, added, place, sorted_list, same_bag}
 
 -- two elements may be put in their places in either order
 module _ (m n : ℕ) (le : m ≤ n) where

@@ -3,21 +3,21 @@ use Rattle.std.proofs.Math.Seq.{take-suc}
 use Rattle.std.proofs.Math.ListN.{get_or}
 use Rattle.std.proofs.Common.{arith, take, length, ◌<◌, ◌+◌, ◌≡◌, ◌≢◌, ℕ, suc, ◌-◌, Bool, true, false, List, [], ◌∷◌, ◌++◌, refl, ap, ◌∙◌, sym}
 use Rattle.std.specs.FinMap as maps
-use Rattle.numbers.specs.Bag.{bag_of, no_number as empty_bag}
+use Rattle.containers.specs.Bag.{bag_of, no_number as empty_bag}
 use Rattle.nres_core.specs.Texts.{put_all}
 use Rattle.nres_core.specs.declared.place.Place.{Place}
 use Rattle.nres_core.specs.declared.ty.Ty.TheVariants as ty
 use Rattle.nres_core.specs.declared.value.Value.{Value}
 use Rattle.nres_core.specs.declared.value.Value.TheVariants as v
-use Rattle.nres_machine.specs.Cursor.{behind, Takes}
-use Rattle.nres_machine.specs.Lexemes.{Lex}
-use Rattle.nres_machine.specs.Machine.{Mode, number, numbers, numbers_read, pairs, pair_of, pass, value, members, braces, go, stop, number_at, value_at, Left, Moves, Fails, run}
-use Rattle.nres_machine.specs.declared.lexeme.Fixed.{Fixed}
-use Rattle.nres_machine.specs.declared.lexeme.Fixed.TheVariants as fixed
-use Rattle.nres_machine.specs.declared.lexeme.Lexeme.{Lexeme}
-use Rattle.nres_machine.specs.declared.lexeme.Lexeme.TheVariants as x
-use Rattle.nres_machine.specs.declared.refusal.SyntaxRefusal.TheVariants as refusal
-use Rattle.nres_machine.proofs.Going.{Sees, same, alike, goes, stops}
+use Rattle.nres_automaton.specs.Cursor.{behind, Takes}
+use Rattle.nres_automaton.specs.Lexemes.{Lex}
+use Rattle.nres_automaton.specs.Automaton.{Mode, number, numbers, numbers_read, pairs, pair_of, pass, value, members, braces, go, stop, number_at, value_at, Left, Moves, Fails, run}
+use Rattle.nres_automaton.specs.declared.lexeme.Fixed.{Fixed}
+use Rattle.nres_automaton.specs.declared.lexeme.Fixed.TheVariants as fixed
+use Rattle.nres_automaton.specs.declared.lexeme.Lexeme.{Lexeme}
+use Rattle.nres_automaton.specs.declared.lexeme.Lexeme.TheVariants as x
+use Rattle.nres_automaton.specs.declared.refusal.SyntaxRefusal.TheVariants as refusal
+use Rattle.nres_automaton.proofs.Going.{Sees, same, alike, goes, stops}
 
 -- ---- numbers
 

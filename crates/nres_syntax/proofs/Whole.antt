@@ -6,7 +6,7 @@ use Rattle.nres_core.proofs.Sizes.{no_larger}
 use Rattle.nres_core.specs.Sizes.{nesting_of, size_of}
 use Rattle.nres_core.specs.Texts.{AreWiths, BeginsText, BeginsWiths, IsFile, SpecText, WithText, open_at_once, operators}
 use Rattle.nres_core.specs.Tokens.{Lexes, StopsAt, after, first}
-use Rattle.nres_core.specs.Words.{Tok, all_seen, place_of}
+use Rattle.nres_core.specs.Vocabulary.{Tok, all_seen, place_of}
 use Rattle.nres_core.specs.declared.place.Place.{Place}
 use Rattle.nres_core.specs.declared.token.Token.{Token}
 use Rattle.nres_core.specs.declared.tree.Spec.{Spec}
@@ -14,15 +14,15 @@ use Rattle.nres_core.specs.declared.tree.With.{With}
 use Rattle.sep_lex.proofs.One as one
 use Rattle.sep_lex.specs.Spans.{line_start}
 use Rattle.nres_syntax.specs.Files.{GivesFile, GivesValues}
-use Rattle.nres_machine.specs.Laws.{Refuses, RefusesValues}
-use Rattle.nres_machine.specs.Lexemes.{Lex, lexes}
-use Rattle.nres_machine.specs.Machine.{Found, specification, given, Outcome, accepted, refused, run, told, refusal_of, place_in, file, values}
+use Rattle.nres_automaton.specs.Laws.{Refuses, RefusesValues}
+use Rattle.nres_automaton.specs.Lexemes.{Lex, lexes}
+use Rattle.nres_automaton.specs.Automaton.{Found, specification, given, Outcome, accepted, refused, run, told, refusal_of, place_in, file, values}
 use Rattle.nres_syntax.specs.Refusals.{Stops, EndsEarly, Deep, RefusedAt, RefusedDeep, StopsValues, EndsEarlyValues, ValuesRefusedAt}
-use Rattle.nres_machine.specs.declared.refusal.SyntaxRefusal.{SyntaxRefusal}
-use Rattle.nres_machine.specs.declared.refusal.SyntaxRefusal.TheVariants as refusal
-use Rattle.nres_machine.proofs.Accepted as accept
-use Rattle.nres_machine.proofs.CompleteTexts as complete
-use Rattle.nres_machine.proofs.Refused as refuse
+use Rattle.nres_automaton.specs.declared.refusal.SyntaxRefusal.{SyntaxRefusal}
+use Rattle.nres_automaton.specs.declared.refusal.SyntaxRefusal.TheVariants as refusal
+use Rattle.nres_automaton.proofs.Accepted as accept
+use Rattle.nres_automaton.proofs.CompleteTexts as complete
+use Rattle.nres_automaton.proofs.Refused as refuse
 
 abbrev rooms : ℕ
 rooms = open_at_once

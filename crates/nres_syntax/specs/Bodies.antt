@@ -8,16 +8,16 @@ use Rattle.nres_core.specs.declared.tree.Body.{Body}
 use Rattle.nres_core.specs.declared.tree.Body.TheVariants as bodies
 use Rattle.nres_core.specs.declared.tree.Step.{Step}
 use Rattle.nres_core.specs.declared.tree.Step.TheVariants as kinds
-use Rattle.nres_machine.specs.Machine.{Mode, Left, Moves, Fails, pass, when, more_params, typed, laid, slice_at, name, pattern, results, others, body, whole, block_to}
+use Rattle.nres_automaton.specs.Automaton.{Mode, Left, Moves, Fails, pass, when, more_params, typed, laid, slice_at, name, pattern, results, others, body, whole, block_to}
 use Rattle.nres_core.specs.declared.tree.Param.{Param}
 use Rattle.nres_core.specs.declared.tree.Shown.{Shown}
 use Rattle.nres_core.specs.declared.ty.Ty.{Ty}
-use Rattle.nres_machine.specs.declared.refusal.SyntaxRefusal.{SyntaxRefusal}
-use Rattle.nres_machine.specs.declared.refusal.SyntaxRefusal.TheVariants as refusal
-use Rattle.nres_machine.specs.declared.lexeme.Construct.{Construct}
-use Rattle.nres_machine.specs.declared.lexeme.Construct.TheVariants as construct
-use Rattle.nres_machine.specs.declared.lexeme.Fixed.{Fixed}
-use Rattle.nres_machine.specs.declared.lexeme.Fixed.TheVariants as fixed
+use Rattle.nres_automaton.specs.declared.refusal.SyntaxRefusal.{SyntaxRefusal}
+use Rattle.nres_automaton.specs.declared.refusal.SyntaxRefusal.TheVariants as refusal
+use Rattle.nres_automaton.specs.declared.lexeme.Construct.{Construct}
+use Rattle.nres_automaton.specs.declared.lexeme.Construct.TheVariants as construct
+use Rattle.nres_automaton.specs.declared.lexeme.Fixed.{Fixed}
+use Rattle.nres_automaton.specs.declared.lexeme.Fixed.TheVariants as fixed
 
 -- a step, where no `return` comes
 abbrev pub step_mode : (Step → Mode) → Mode
@@ -65,7 +65,7 @@ one_shown b k = typed b k k
 abbrev pub slice_or : Ty → (Shown → Mode) → Mode
 slice_or t k = when fixed.Slice (λ p. k (slice_at p)) (laid t k)
 
--- the machine goes from before a part with so much room to behind it with another
+-- the automaton goes from before a part with so much room to behind it with another
 abbrev pub ReadsTo : {A : Type 0} → ℕ → ((A → Mode) → Mode) → ℕ → Left → Result A SyntaxRefusal → Left → Type 0
 ReadsTo {A = A} s before r old (Ok y) new = (k : A → Mode) → Moves operators s old (before k) r new (k y)
 ReadsTo {A = A} s before r old (Err e) new = e ≢ refusal.Memory → (k : A → Mode) → Fails operators s old (before k) e

@@ -4,11 +4,11 @@ use Rattle.nres_core.specs.Texts.{open_at_once, operators}
 use Rattle.nres_core.specs.declared.tree.Fun.{Fun}
 use Rattle.nres_core.specs.declared.tree.Spec.{Spec}
 use Rattle.nres_core.specs.declared.tree.With.{With}
-use Rattle.nres_machine.specs.Machine.{Found, specification, given, Mode, start, values, Left, Fails, run, accepted}
-use Rattle.nres_machine.specs.declared.refusal.SyntaxRefusal.{SyntaxRefusal}
-use Rattle.nres_machine.specs.declared.refusal.SyntaxRefusal.TheVariants as refusal
+use Rattle.nres_automaton.specs.Automaton.{Found, specification, given, Mode, start, values, Left, Fails, run, accepted}
+use Rattle.nres_automaton.specs.declared.refusal.SyntaxRefusal.{SyntaxRefusal}
+use Rattle.nres_automaton.specs.declared.refusal.SyntaxRefusal.TheVariants as refusal
 
--- the machine goes to the end and gives what was read, whatever is made of it, or refuses so
+-- the automaton goes to the end and gives what was read, whatever is made of it, or refuses so
 abbrev pub Gives : {A : Type 0} → ((A → Found) → Mode) → Left → Result A SyntaxRefusal → Type 0
 Gives {A = A} before old (Ok y) = (k : A → Found) → run operators open_at_once old.1 (before k) old.0 ≡ accepted (k y)
 Gives {A = A} before old (Err e) = e ≢ refusal.Memory → (k : A → Found) → Fails operators open_at_once old (before k) e

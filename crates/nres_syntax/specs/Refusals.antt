@@ -2,7 +2,7 @@
 use Rattle.std.specs.Prelude.{◌≡◌, ◌≤◌, ◌⊎◌, ℕ, suc, List, drop, length, take}
 use Rattle.nres_core.specs.Texts.{AreWiths, BeginsText, BeginsUnlimited, BeginsWiths, IsFile, IsTooDeep, StopsBehind, open_at_once, operators}
 use Rattle.nres_core.specs.Tokens.{Lexes, StopsAt, after, first}
-use Rattle.nres_core.specs.Words.{Tok, all_seen, place_of}
+use Rattle.nres_core.specs.Vocabulary.{Tok, all_seen, place_of}
 use Rattle.nres_core.specs.declared.place.Place.{Place}
 use Rattle.nres_core.specs.declared.token.Token.{Token}
 use Rattle.nres_core.specs.declared.tree.Spec.{Spec}

@@ -2,14 +2,14 @@
 
 ghost use Rattle.std.specs.Prelude.{ℕ, List, ◌≡◌, ◌≢◌, ◌<◌, ◌≤◌, [], ◌∷◌, length, OnOk};
 ghost use Rattle.nres_syntax.specs.Bodies.{either_inner, foreach_inner, if_inner, inner, named_to, over_mode, par_inner, split_inner, step_mode, while_inner};
-ghost use Rattle.nres_machine.specs.Cursor.{left};
-ghost use Rattle.nres_machine.specs.Machine.{Mode, Reads, block_to as block_to_mode, body as body_mode, call_body, steps as steps_mode, whole_atom as whole_atom_mode};
+ghost use Rattle.nres_automaton.specs.Cursor.{left};
+ghost use Rattle.nres_automaton.specs.Automaton.{Mode, Reads, block_to as block_to_mode, body as body_mode, call_body, steps as steps_mode, whole_atom as whole_atom_mode};
 
-use nres_core::{Block, Body, Named, Place, Step};
-use nres_machine::{
+use nres_automaton::{
     Construct, Cursor, Fixed, Lexeme, SyntaxRefusal, args, construct_at, is_fixed, name, name_of,
     name_to, others, pattern_to, results, results_to, whole, whole_atom, whole_to,
 };
+use nres_core::{Block, Body, Named, Place, Step};
 use sqlite_items::Items;
 use std::alloc::Global;
 

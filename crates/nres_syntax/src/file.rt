@@ -4,22 +4,22 @@ ghost use Rattle.std.specs.Prelude.{ℕ, List, ◌≡◌, ◌≢◌, ◌<◌, �
 ghost use Rattle.nres_core.specs.Sizes.{nesting_of, size_of};
 ghost use Rattle.nres_core.specs.Texts.{SpecText, WithText, open_at_once, operators};
 ghost use Rattle.nres_core.specs.Tokens.{Lexes, first};
-ghost use Rattle.nres_core.specs.Words.{all_seen};
+ghost use Rattle.nres_core.specs.Vocabulary.{all_seen};
 ghost use Rattle.nres_core.specs.declared.place.Place.{Place as PlaceOf};
 ghost use Rattle.nres_core.specs.declared.token.Token.{Token as TokenOf};
 ghost use Rattle.nres_core.specs.declared.tree.Spec.{Spec as SpecOf};
 ghost use Rattle.nres_core.specs.declared.tree.With.{With as WithOf};
 ghost use Rattle.sep_lex.specs.Spans.{AllWithin};
-ghost use Rattle.nres_machine.specs.Cursor.{left};
+ghost use Rattle.nres_automaton.specs.Cursor.{left};
 ghost use Rattle.nres_syntax.specs.Files.{Gives, GivesFile, GivesValues};
-ghost use Rattle.nres_machine.specs.Lexemes.{lexes};
-ghost use Rattle.nres_machine.specs.Machine as machine;
+ghost use Rattle.nres_automaton.specs.Lexemes.{lexes};
+ghost use Rattle.nres_automaton.specs.Automaton as automaton;
 ghost use Rattle.nres_syntax.specs.Refusals.{RefusedAt, RefusedDeep, ValuesRefusedAt};
 
 use crate::head::heading;
 use crate::value::value;
+use nres_automaton::{Cursor, Fixed, Lexeme, SyntaxRefusal, is_fixed, name_to};
 use nres_core::{Fun, Place, Spec, Token, With};
-use nres_machine::{Cursor, Fixed, Lexeme, SyntaxRefusal, is_fixed, name_to};
 use sep_lex::{LexRefusal, after, tokens_from};
 use sqlite_items::Items;
 use std::alloc::Global;
@@ -29,7 +29,7 @@ const ROOM: u8 = 64;
 
 /// The values for parameters, up to the end.
 fn withs(alloc: Global, cursor: &mut Cursor<'_>) -> Result<Items<With>, SyntaxRefusal>
-    ensures reads { Gives (machine.withs []) (left cursor.old) result }
+    ensures reads { Gives (automaton.withs []) (left cursor.old) result }
 {
     let mut all = Items::new(alloc);
     'each: loop {
@@ -60,7 +60,7 @@ struct Rest {
 
 /// All that stands behind a specification's own block.
 fn behind(alloc: Global, cursor: &mut Cursor<'_>) -> Result<Rest, SyntaxRefusal>
-    ensures reads { Gives (λ k. machine.funs [] (λ fs ws. k (record { funs = fs; withs = ws }))) (left cursor.old) result }
+    ensures reads { Gives (λ k. automaton.funs [] (λ fs ws. k (record { funs = fs; withs = ws }))) (left cursor.old) result }
 {
     let mut funs = Items::new(alloc);
     'each: loop {

@@ -3,14 +3,14 @@
 ghost use Rattle.std.specs.Prelude.{ℕ, List, Bool, ◌≡◌, ◌≢◌, ◌<◌, ◌≤◌, ◌-◌, ◌&&◌, [], ◌∷◌, length, OnOk, true, false};
 ghost use Rattle.nres_core.specs.Texts.{param as param_made};
 ghost use Rattle.nres_syntax.specs.Bodies.{ReadsTo, inner_params, one_shown, slice_or};
-ghost use Rattle.nres_machine.specs.Cursor.{left};
-ghost use Rattle.nres_machine.specs.Machine.{Mode, Reads, container as container_mode, headed, is_list, laid as laid_mode, more_params as more_params_mode, more_shown as more_shown_mode, name as name_mode, param_of, shown as shown_mode, typed as typed_mode};
+ghost use Rattle.nres_automaton.specs.Cursor.{left};
+ghost use Rattle.nres_automaton.specs.Automaton.{Mode, Reads, container as container_mode, headed, is_list, laid as laid_mode, more_params as more_params_mode, more_shown as more_shown_mode, name as name_mode, param_of, shown as shown_mode, typed as typed_mode};
 
 use crate::block::block_to;
-use nres_core::{Block, Named, Param, Shown, Ty};
-use nres_machine::{
+use nres_automaton::{
     Cursor, Fixed, Lexeme, SyntaxRefusal, container_type, is_fixed, more, name, name_to, rep,
 };
+use nres_core::{Block, Named, Param, Shown, Ty};
 use sqlite_items::Items;
 use std::alloc::Global;
 use target_code::Rep;

@@ -5,9 +5,7 @@
 mod block;
 mod file;
 mod head;
-#[cfg(test)]
-mod tests;
 mod value;
 
 pub use file::{read_spec, read_withs};
-pub use nres_machine::SyntaxRefusal;
+pub use nres_automaton::SyntaxRefusal;

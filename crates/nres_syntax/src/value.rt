@@ -3,13 +3,13 @@
 ghost use Rattle.std.specs.Prelude.{ℕ, List, ◌≡◌, ◌≢◌, ◌<◌, ◌≤◌, [], ◌∷◌, ◌++◌, length, IfOk, OnOk, true, false};
 ghost use Rattle.std.specs.FinMap as maps;
 ghost use Rattle.std.specs.FinSet as sets;
-ghost use Rattle.numbers.specs.Bag.{bag_of};
+ghost use Rattle.containers.specs.Bag.{bag_of};
 ghost use Rattle.nres_core.specs.Texts.{put_all};
-ghost use Rattle.nres_machine.specs.Cursor.{left};
-ghost use Rattle.nres_machine.specs.Machine.{Mode, Reads, braces as braces_mode, members as members_mode, number as number_mode, numbers as numbers_mode, numbers_read, pair_of, pass, value as value_mode};
+ghost use Rattle.nres_automaton.specs.Cursor.{left};
+ghost use Rattle.nres_automaton.specs.Automaton.{Mode, Reads, braces as braces_mode, members as members_mode, number as number_mode, numbers as numbers_mode, numbers_read, pair_of, pass, value as value_mode};
 
+use nres_automaton::{Cursor, Fixed, Lexeme, SyntaxRefusal, is_bag, is_fixed, more};
 use nres_core::{NumBag, NumMap, NumSet, Nums, Value};
-use nres_machine::{Cursor, Fixed, Lexeme, SyntaxRefusal, is_bag, is_fixed, more};
 use sqlite_items::Items;
 use std::alloc::{AllocError, Global};
 

@@ -5,7 +5,7 @@ use Rattle.std.proofs.Common.{◌≡◌, ℕ, Result, Ok, Err, List, [], ◌∷�
 use Rattle.nres_core.specs.Mirror.{exp_of, all_exps, blk_of, bod_of}
 use Rattle.nres_core.specs.Tree as t
 use Rattle.nres_core.specs.Tree.{Exp, Exps, Blk, Bod, Word}
-use Rattle.nres_core.specs.Types.{Names, Heads, Wrong, Profile, FoundAll, BlkFound, least, wanted, counted, first_is_list, twice, types_of, types_for, tail_of, with_types, name_wants, block_gives, loop_fits, exp_type, exps_type, blk_type, bod_type}
+use Rattle.nres_rules.specs.Types.{Names, Heads, Wrong, Profile, FoundAll, BlkFound, least, wanted, counted, first_is_list, twice, types_of, types_for, tail_of, with_types, name_wants, block_gives, loop_fits, exp_type, exps_type, blk_type, bod_type}
 use Rattle.nres_core.specs.declared.place.Named.{Named}
 use Rattle.nres_core.specs.declared.place.Place.{Place}
 use Rattle.nres_core.specs.declared.tree.Block.{Block}

@@ -1,12 +1,12 @@
 -- Lists of types, one element after the other.
 use Rattle.std.proofs.Common.{◌≡◌, ℕ, zero, suc, ◌<◌, ◌≤◌, ◌+◌, List, [], ◌∷◌, ◌++◌, length, drop, get_or, slice_get, slice_set, Option, refl, sym, ap, ◌∙◌, arith, add-one, append_assoc, append-nil}
 use Rattle.std.proofs.lemmas.List.{drop_all}
-use Rattle.nres_core.specs.Types.{Heads, types_for, types_of, tail_of}
+use Rattle.nres_rules.specs.Types.{Heads, types_for, types_of, tail_of}
 use Rattle.nres_core.specs.declared.place.Named.{Named}
 use Rattle.nres_core.specs.declared.place.Place.{Place}
 use Rattle.nres_core.specs.declared.ty.Ty.{Ty}
 use Rattle.nres_types.specs.Findings.{Told, bound_all, with_binders, set_from}
-use Rattle.nres_types.specs.Scopes.{at_last}
+use Rattle.scopes.specs.Logs.{at_last}
 
 pub length_types_for : (xs : List Named) (us : List (Option Ty)) → length (types_for xs us) ≡ length xs
 length_types_for [] us = refl

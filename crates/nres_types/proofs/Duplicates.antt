@@ -3,7 +3,7 @@ use Rattle.std.proofs.Common.{◌≡◌, ℕ, ◌<◌, ◌+◌, cond, List, [], 
 use Rattle.std.proofs.Math.Seq.{take-suc}
 use Rattle.indexmap.specs.IndexSet.{IndexSet, contains, Updates}
 use Rattle.nres_core.specs.Tree.{same_name}
-use Rattle.nres_core.specs.Types.{Wrong, Duplicate, twice, is_among}
+use Rattle.nres_rules.specs.Types.{Wrong, Duplicate, twice, is_among}
 use Rattle.nres_core.specs.declared.place.Named.{Named}
 use Rattle.nres_types.specs.Patterns.{seen_in}
 

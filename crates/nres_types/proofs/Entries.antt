@@ -5,7 +5,7 @@ use Rattle.std.proofs.lemmas.List.Sums.{sum_by-cons}
 use Rattle.indexmap.specs.IndexSet.{IndexSet, contains, Updates}
 use Rattle.nres_core.specs.Mirror.{blk_of, named_params}
 use Rattle.nres_core.specs.Tree.{Blk, Word}
-use Rattle.nres_core.specs.Types.{Names, Heads, Wrong, Duplicate, Profile, BlkFound, least, counted, twice, is_among, with_types, some_types, shown_types, block_gives, blk_type, rep_fits, params_fit, shown_fit, is_slice, slices_given, slices_taken, entered, funs_type, param_types}
+use Rattle.nres_rules.specs.Types.{Names, Heads, Wrong, Duplicate, Profile, BlkFound, least, counted, twice, is_among, with_types, some_types, shown_types, block_gives, blk_type, rep_fits, params_fit, shown_fit, is_slice, slices_given, slices_taken, entered, funs_type, param_types}
 use Rattle.nres_core.specs.declared.place.Named.{Named}
 use Rattle.nres_core.specs.declared.place.Place.{Place}
 use Rattle.nres_core.specs.declared.tree.Fun.{Fun}

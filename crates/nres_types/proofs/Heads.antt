@@ -1,7 +1,7 @@
 -- The types of several expressions, one after the other.
 use Rattle.std.proofs.Common.{◌⊎◌, inl, inr, ◌≡◌, ℕ, ◌<◌, ◌≤◌, ◌+◌, min, List, [], ◌∷◌, length, drop, get_or, Option, None, refl, sym, ap, ◌∙◌, arith, add-one, drop-cons}
 use Rattle.std.proofs.lemmas.List.{drop_all}
-use Rattle.nres_core.specs.Types.{Wrong, Heads, least, wants, wants_known, all_want, all_want_known}
+use Rattle.nres_rules.specs.Types.{Wrong, Heads, least, wants, wants_known, all_want, all_want_known}
 use Rattle.nres_core.specs.declared.place.Place.{Place}
 use Rattle.nres_core.specs.declared.ty.Ty.{Ty}
 use Rattle.nres_types.specs.Findings.{Told, noted}

@@ -1,7 +1,7 @@
 -- Findings are a monoid: the least refusal of several parts is that of their parts in turn.
 use Rattle.std.proofs.Common.{◌≡◌, [], Option, Some, None, Bool, true, false, cond, refl, sym, ap, ◌∙◌, arith, append_assoc, append-nil}
 use Rattle.std.proofs.lemmas.Bool.Decides.{nat_tests}
-use Rattle.nres_core.specs.Types.{Wrong, place_of, stands_before, least}
+use Rattle.nres_rules.specs.Types.{Wrong, place_of, stands_before, least}
 use Rattle.nres_core.specs.declared.place.Place.{Place}
 use Rattle.nres_types.specs.Findings.{Told, joined, noted}
 

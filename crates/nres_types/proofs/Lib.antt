@@ -9,5 +9,4 @@ pub mod Procs
 pub mod Results
 pub mod Scopes
 pub mod Steps
-pub mod Tables
 pub mod Walks

@@ -1,8 +1,9 @@
 -- The steps of the walk over bodies without blocks.
 use Rattle.std.proofs.Common.{◌≡◌, ℕ, List, [], ◌∷◌, length, Option, Some, None, refl, ap, ◌∙◌, append_assoc}
+use Rattle.nres_core.specs.Operations.{entry}
 use Rattle.nres_core.specs.Tree as t
 use Rattle.nres_core.specs.Tree.{Exp, Exps, Word}
-use Rattle.nres_core.specs.Types.{Names, Heads, Wrong, Unbound, Profile, FoundAll, least, counted, all_want, all_want_known, twice, take_type, take_op, some_types, profile_at, called, exp_type, exps_type, bod_type}
+use Rattle.nres_rules.specs.Types.{Names, Heads, Wrong, Unbound, Profile, FoundAll, least, counted, all_want, all_want_known, twice, take_type, take_op, taken_from, some_types, profile_at, called, exp_type, exps_type, bod_type}
 use Rattle.nres_core.specs.declared.op.Op.{Op}
 use Rattle.nres_core.specs.declared.place.Named.{Named}
 use Rattle.nres_core.specs.declared.place.Place.{Place}
@@ -22,13 +23,14 @@ any_done t0 t1 t2 a b s us e h k = record { gives_are = ap (λ z. Some z) e; tol
 take_words : (g : Told) (o : Option Op) (x : Told) → joined (worded g o) x ≡ joined g (record x { words = o ∷ x.words })
 take_words g o x = told_eq (joined (worded g o) x) (joined g (record x { words = o ∷ x.words })) refl refl (append_assoc g.words (o ∷ []) x.words)
 
-pub take_done : (t0 t1 t2 : Told) (x : Exp Word) (s : Names) (w v : List ℕ) (u : Ty) (o : Op) (us : List (Option Ty)) → v ≡ w → u ≡ take_type v → o ≡ take_op u → t1 ≡ worded t0 (Some o) → t2 ≡ joined t1 (operand_told x u s) → us ≡ Some ty.Nat ∷ Some u ∷ [] → IsBod (Some us) t0 t2 (bod_type [] (t.Take nowhere (w, None) x) s)
-take_done t0 t1 t2 x s w v u o us e h k a b f =
-    let is : u ≡ take_type w = h ∙ ap take_type e in
+pub take_done : (t0 t1 t2 : Told) (x : Exp Word) (s : Names) (w v : List ℕ) (u : Ty) (o : Op) (us : List (Option Ty)) → v ≡ w → o ≡ take_op v → u ≡ taken_from (entry o) → t1 ≡ worded t0 (Some o) → t2 ≡ joined t1 (operand_told x u s) → us ≡ Some ty.Nat ∷ Some u ∷ [] → IsBod (Some us) t0 t2 (bod_type [] (t.Take nowhere (w, None) x) s)
+take_done t0 t1 t2 x s w v u o us e k h a b f =
+    let op : o ≡ take_op w = k ∙ ap take_op e in
+    let is : u ≡ take_type w = h ∙ ap (λ z. taken_from (entry z)) op in
     record {
       gives_are = ap (λ z. Some z) (f ∙ ap (λ z. Some ty.Nat ∷ Some z ∷ []) is);
-      told = b ∙ ap (λ z. joined z (operand_told x u s)) (a ∙ ap (λ z. worded t0 (Some z)) (k ∙ ap take_op is)) ∙ ap (λ z. joined (worded t0 (Some (take_op (take_type w)))) (operand_told x z s)) is
-          ∙ take_words t0 (Some (take_op (take_type w))) (operand_told x (take_type w) s);
+      told = b ∙ ap (λ z. joined z (operand_told x u s)) (a ∙ ap (λ z. worded t0 (Some z)) op) ∙ ap (λ z. joined (worded t0 (Some (take_op w))) (operand_told x z s)) is
+          ∙ take_words t0 (Some (take_op w)) (operand_told x (take_type w) s);
     }
 
 -- ---- calls

@@ -4,8 +4,8 @@ use Rattle.std.specs.Option.{is_some}
 use Rattle.std.proofs.lemmas.Slice.Eq.{bytes_eq-Decides}
 use Rattle.indexmap.specs.IndexMap.{IndexMap, get, get_by, Updates}
 use Rattle.nres_core.specs.Tree.{same_name}
-use Rattle.nres_core.specs.Types as t
-use Rattle.nres_core.specs.Types.{profiles, profile_at, param_types, shown_types, some_types}
+use Rattle.nres_rules.specs.Types as t
+use Rattle.nres_rules.specs.Types.{profiles, profile_at, param_types, shown_types, some_types}
 use Rattle.nres_core.specs.declared.tree.Fun.{Fun}
 use Rattle.nres_core.specs.declared.ty.Ty.{Ty}
 use Rattle.nres_types.specs.Procedures.{profile_view, known_profile, seen_profile, or_else}

@@ -1,7 +1,7 @@
 -- What a specification's typing says of the answer.
 use Rattle.std.specs.Result.{IfOk, IfErr}
 use Rattle.std.proofs.Common.{◌≡◌, ◌≢◌, Result, Ok, Err, List, [], ◌∷◌, map, Option, Some, None, refl, sym, ap, ◌∙◌}
-use Rattle.nres_core.specs.Types.{Wrong, HasTyping, spec_type}
+use Rattle.nres_rules.specs.Types.{Wrong, HasTyping, spec_type}
 use Rattle.nres_core.specs.declared.tree.Spec.{Spec}
 use Rattle.nres_core.specs.declared.tree.Typing.{Typing}
 use Rattle.nres_types.specs.Findings.{Told}

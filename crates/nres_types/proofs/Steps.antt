@@ -8,7 +8,7 @@ use Rattle.target_code.specs.declared.tree.Calc.{Calc}
 use Rattle.nres_core.specs.Mirror.{exp_of, all_exps, rep_of}
 use Rattle.nres_core.specs.Tree as t
 use Rattle.nres_core.specs.Tree.{Exp, Word, same_name}
-use Rattle.nres_core.specs.Types.{Names, Wrong, Found, FoundAll, Heads, Sig, first_token, wants, name_wants, operand, outcome, exp_type, exps_type, applied, type_at, bound_at, Unbound, least, sig_of, first_head, lacks_operation, made_fits, all_want}
+use Rattle.nres_rules.specs.Types.{Names, Wrong, Found, FoundAll, Heads, Sig, first_token, wants, name_wants, operand, outcome, exp_type, exps_type, applied, type_at, bound_at, Unbound, least, sig_of, first_head, lacks_operation, made_fits, all_want}
 use Rattle.nres_core.specs.declared.op.Op.{Op}
 use Rattle.nres_core.specs.declared.place.Named.{Named}
 use Rattle.nres_core.specs.declared.place.Place.{Place}
@@ -18,7 +18,8 @@ use Rattle.nres_core.specs.declared.tree.Expr.TheVariants as e
 use Rattle.nres_core.specs.declared.ty.Ty.{Ty}
 use Rattle.nres_core.proofs.Mirrored.{mirrored}
 use Rattle.nres_types.specs.Findings.{Told, joined, noted, worded, with_word, exp_told, all_told, operand_told, IsExp, IsExps, Remains}
-use Rattle.nres_types.specs.Scopes.{found_in, at_last}
+use Rattle.scopes.specs.Logs.{at_last}
+use Rattle.scopes.specs.Names.{found_in}
 use Rattle.nres_types.proofs.Joins.{joined_assoc, joined_nothing, then_join, then_note, note_join, told_eq, least_assoc}
 
 -- ---- names

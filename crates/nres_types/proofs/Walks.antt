@@ -7,7 +7,7 @@ use Rattle.std.proofs.Common.{◌≡◌, ℕ, suc, ◌<◌, ◌≤◌, ◌+◌, 
 use Rattle.nres_core.specs.Mirror.{exp_of, all_exps, blk_of, bod_of, before, all_steps}
 use Rattle.nres_core.specs.Tree as t
 use Rattle.nres_core.specs.Tree.{Exp, Exps, Blk, Steps, Bod, Word}
-use Rattle.nres_core.specs.Types.{Names, Heads, Wrong, Profile, BlkFound, BodFound, least, twice, types_for, known_types, pattern_counts, with_types, exps_type, blk_type, bod_type, steps_type}
+use Rattle.nres_rules.specs.Types.{Names, Heads, Wrong, Profile, BlkFound, BodFound, least, twice, types_for, known_types, pattern_counts, with_types, exps_type, blk_type, bod_type, steps_type}
 use Rattle.nres_core.specs.declared.place.Named.{Named}
 use Rattle.nres_core.specs.declared.place.Place.{Place}
 use Rattle.nres_core.specs.declared.tree.Block.{Block}

@@ -1,7 +1,7 @@
 -- What is found of blocks and bodies.
 use Rattle.std.specs.Prelude.{◌≡◌, List, [], ◌∷◌, ◌++◌, Option, Some, None, length}
 use Rattle.nres_core.specs.Tree.{Steps, Exps, Word}
-use Rattle.nres_core.specs.Types.{Wrong, Heads, Names, BlkFound, BodFound, Profile, least, counted, all_want_known, first_is_list, twice, steps_type, types_of, tail_of, block_gives}
+use Rattle.nres_rules.specs.Types.{Wrong, Heads, Names, BlkFound, BodFound, Profile, least, counted, all_want_known, first_is_list, twice, steps_type, types_of, tail_of, block_gives}
 use Rattle.nres_core.specs.declared.place.Named.{Named}
 use Rattle.nres_core.specs.declared.place.Place.{Place}
 use Rattle.nres_core.specs.declared.ty.Ty.{Ty}

@@ -1,6 +1,6 @@
 -- What a walk over a specification has found.
 use Rattle.std.specs.Prelude.{ℕ, suc, List, [], ◌∷◌, ◌++◌, Option, Some, None, ◌≡◌, slice_set}
-use Rattle.nres_core.specs.Types.{Wrong, Unbound, Mismatch, Arity, No_operation, Duplicate, Other_rep, least, Found, FoundAll, BlkFound, BodFound, Heads, Names, wanted, exp_type}
+use Rattle.nres_rules.specs.Types.{Wrong, Unbound, Mismatch, Arity, No_operation, Duplicate, Other_rep, least, Found, FoundAll, BlkFound, BodFound, Heads, Names, wanted, exp_type}
 use Rattle.nres_core.specs.Tree.{Exp, Word}
 use Rattle.nres_core.specs.declared.op.Op.{Op}
 use Rattle.nres_core.specs.declared.ty.Ty.{Ty}

@@ -3,7 +3,7 @@ use Rattle.std.specs.Prelude.{◌≡◌, ℕ, List}
 use Rattle.std.specs.Borrow.{Bor}
 use Rattle.indexmap.specs.IndexMap.{IndexMap, get}
 use Rattle.nres_core.specs.Tree.{same_name}
-use Rattle.nres_core.specs.Types.{profiles, profile_at}
+use Rattle.nres_rules.specs.Types.{profiles, profile_at}
 use Rattle.nres_core.specs.declared.tree.Fun.{Fun}
 use Rattle.nres_types.specs.Procedures.{known_profile, seen_profile}
 use Rattle.nres_types.specs.declared.profiles.Profile.{Profile}

@@ -1,9 +1,7 @@
 pub mod Bodies
 pub mod Findings
 pub mod Firsts
-pub mod Logs
 pub mod Patterns
 pub mod Procedures
-pub mod Scopes
 pub mod Wholes
-pub mod Words
+pub mod Signatures

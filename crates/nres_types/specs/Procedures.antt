@@ -1,8 +1,8 @@
 -- What procedures take and give.
 use Rattle.std.specs.Prelude.{List, Option, Some, None}
 use Rattle.std.specs.Borrow.{Bor}
-use Rattle.nres_core.specs.Types as t
-use Rattle.nres_core.specs.Types.{some_types}
+use Rattle.nres_rules.specs.Types as t
+use Rattle.nres_rules.specs.Types.{some_types}
 use Rattle.nres_core.specs.declared.ty.Ty.{Ty}
 use Rattle.nres_types.specs.declared.profiles.Profile.{Profile}
 

@@ -1,6 +1,6 @@
 -- What is told of whole specifications.
 use Rattle.std.specs.Prelude.{◌≡◌, Option, Some, None, map}
-use Rattle.nres_core.specs.Types.{Wrong, Unbound, Mismatch, Arity, No_operation, Duplicate, Other_rep, Typed}
+use Rattle.nres_rules.specs.Types.{Wrong, Unbound, Mismatch, Arity, No_operation, Duplicate, Other_rep, Typed}
 use Rattle.nres_core.specs.declared.tree.Typing.{Typing}
 use Rattle.nres_types.specs.Findings.{Told}
 use Rattle.nres_types.specs.declared.refusal.TypeRefusal.{TypeRefusal}

@@ -3,7 +3,7 @@
 ghost use Rattle.std.specs.Prelude.{◌≡◌, ◌∷◌, ◌++◌, IfOk, OnOk};
 ghost use Rattle.nres_core.specs.Mirror.{exp_of, all_exps, blk_of, bod_of, before};
 ghost use Rattle.nres_core.specs.Tree as trees;
-ghost use Rattle.nres_core.specs.Types as kinds;
+ghost use Rattle.nres_rules.specs.Types as kinds;
 ghost use Rattle.nres_types.specs.Bodies.{IsBlk, IsBod, IsGiven, IsHalf, IsStep, gives_of, half_told, halves_types, nowhere, side_told};
 ghost use Rattle.nres_types.specs.Findings.{told_of, blk_told};
 
@@ -13,7 +13,7 @@ use crate::findings::Findings;
 use crate::gives::{Gives, add_types, types_of};
 use crate::patterns::{name_wants, twice};
 use crate::profiles::Profiles;
-use crate::scope::Scope;
+use crate::scope::{Scope, bind_all};
 use nres_core::{Block, Body, Expr, Named, Place, Step, Ty};
 use std::alloc::{AllocError, Global};
 
@@ -87,7 +87,7 @@ fn bind<'a>(
     findings.note(twice(alloc, names)?);
     findings.note(gives.pattern_counts(place, names.len()));
     findings.set_binders(at, names, gives.types());
-    scope.bind_all(names, gives.types())
+    bind_all(scope, names, gives.types())
 }
 
 /// The types of a body's results, where their number is known.
@@ -283,9 +283,10 @@ fn turns<'a, 'p>(
 {
     let heads = exprs(alloc, scope, findings, starts)?;
     let types = types_of(alloc, heads.as_slice())?;
+    drop(heads);
     let mark = scope.len();
     findings.add_binders(vars, types.as_slice())?;
-    scope.bind_all(vars, types.as_slice())?;
+    bind_all(scope, vars, types.as_slice())?;
     operand(alloc, scope, findings, test, Ty::Bool)?;
     let results = block(alloc, profiles, scope, findings, body)?;
     scope.leave(mark);
@@ -320,11 +321,12 @@ fn each<'a, 'p>(
     findings.note(name_wants(scope, over, Ty::Set));
     let heads = exprs(alloc, scope, findings, starts)?;
     let types = types_of(alloc, heads.as_slice())?;
+    drop(heads);
     let mark = scope.len();
     findings.add_binder(Some(Ty::Nat))?;
     findings.add_binders(vars, types.as_slice())?;
     scope.bind(var.name.bytes(), Some(Ty::Nat))?;
-    scope.bind_all(vars, types.as_slice())?;
+    bind_all(scope, vars, types.as_slice())?;
     let results = block(alloc, profiles, scope, findings, body)?;
     scope.leave(mark);
     fit_turns(

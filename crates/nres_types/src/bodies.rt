@@ -3,7 +3,7 @@
 ghost use Rattle.std.specs.Prelude.{◌≡◌, [], None, IfOk, OnOk};
 ghost use Rattle.nres_core.specs.Mirror.{exp_of, all_exps};
 ghost use Rattle.nres_core.specs.Tree as trees;
-ghost use Rattle.nres_core.specs.Types as kinds;
+ghost use Rattle.nres_rules.specs.Types as kinds;
 ghost use Rattle.nres_types.specs.Bodies.{IsBod, gives_of, nowhere, results_fit, turns_fit};
 ghost use Rattle.nres_types.specs.Findings.{told_of, noted};
 
@@ -14,7 +14,8 @@ use crate::gives::Gives;
 use crate::patterns::twice;
 use crate::profiles::Profiles;
 use crate::scope::Scope;
-use nres_core::{Expr, Named, Op, Place, Ty};
+use crate::words::{taken_from, taker};
+use nres_core::{Expr, Named, Place, Ty};
 use std::alloc::{AllocError, Global};
 use target_code::Name;
 
@@ -72,26 +73,6 @@ pub(crate) fn value<'a, 'p>(
     Ok(Gives::Own(vec![in alloc; found]?))
 }
 
-/// The type from which a word takes an element.
-fn take_type(word: &[u8]) -> Ty
-    ensures { result ≡ kinds.take_type word.now }
-{
-    if word == b"pop".as_slice() {
-        Ty::List
-    } else {
-        Ty::Bag
-    }
-}
-
-fn take_op(ty: Ty) -> Op
-    ensures { result ≡ kinds.take_op ty }
-{
-    match ty {
-        Ty::List => Op::Pop,
-        _ => Op::TakeMin,
-    }
-}
-
 /// The types of an element that is taken out, and of what is left.
 pub(crate) fn take<'a, 'p>(
     alloc: Global,
@@ -102,8 +83,9 @@ pub(crate) fn take<'a, 'p>(
 ) -> Result<Gives<'p>, AllocError>
     ensures { IfOk result (λ gives. IsBod (gives_of gives) (told_of findings.old) (told_of findings.new) (kinds.bod_type [] (trees.Take nowhere (word.now, None) (exp_of arg.now)) scope.now)) }
 {
-    let from = take_type(word.bytes());
-    findings.add_word(Some(take_op(from)))?;
+    let op = taker(word.bytes());
+    let from = taken_from(op);
+    findings.add_word(Some(op))?;
     operand(alloc, scope, findings, arg, from)?;
     Ok(Gives::Own(vec![in alloc; Some(Ty::Nat), Some(from)]?))
 }

@@ -3,8 +3,8 @@
 ghost use Rattle.std.specs.Prelude.{◌≡◌, ◌<◌, length, IfOk, OnOk};
 ghost use Rattle.nres_core.specs.Mirror.{exp_of, all_exps, rep_of};
 ghost use Rattle.nres_core.specs.Tree as tree;
-ghost use Rattle.nres_core.specs.Types.{first_token, exp_type, exps_type, sig_of};
-ghost use Rattle.nres_core.specs.Types as types;
+ghost use Rattle.nres_rules.specs.Types.{first_token, exp_type, exps_type, sig_of};
+ghost use Rattle.nres_rules.specs.Types as types;
 ghost use Rattle.nres_types.specs.Findings.{told_of, joined, noted, with_word, operand_told, IsExp, IsExps};
 
 use crate::fault::Fault;

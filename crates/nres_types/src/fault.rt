@@ -1,8 +1,8 @@
 //! Broken rules, with names that stand in the tree.
 
 ghost use Rattle.std.specs.Prelude.{◌≡◌, Some};
-ghost use Rattle.nres_core.specs.Types.{place_of, stands_before, same_type, wants, wants_known, counted};
-ghost use Rattle.nres_core.specs.Types as types;
+ghost use Rattle.nres_rules.specs.Types.{place_of, stands_before, same_type, wants, wants_known, counted};
+ghost use Rattle.nres_rules.specs.Types as types;
 ghost use Rattle.nres_types.specs.Findings.{wrong_of, wrongs};
 ghost use Rattle.nres_types.specs.Wholes.{IsTold};
 

@@ -1,8 +1,8 @@
 //! What a walk over a specification has found so far.
 
 ghost use Rattle.std.specs.Prelude.{◌≡◌, ◌+◌, ◌<◌, ◌≤◌, ◌∷◌, [], None, length, OnOk, IfOk};
-ghost use Rattle.nres_core.specs.Types as kinds;
-ghost use Rattle.nres_core.specs.Types.{wants, wants_known, counted, all_want, all_want_known};
+ghost use Rattle.nres_rules.specs.Types as kinds;
+ghost use Rattle.nres_rules.specs.Types.{wants, wants_known, counted, all_want, all_want_known};
 ghost use Rattle.nres_types.specs.Findings.{told_of, wrongs, noted, worded, bound, bound_all, with_word, with_binders};
 
 use crate::fault::{self, Fault};

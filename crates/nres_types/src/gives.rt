@@ -1,7 +1,7 @@
 //! The types of a body's results.
 
 ghost use Rattle.std.specs.Prelude.{◌≡◌, ◌++◌, ◌∷◌, [], drop, IfOk, OnOk, IfSome};
-ghost use Rattle.nres_core.specs.Types as kinds;
+ghost use Rattle.nres_rules.specs.Types as kinds;
 ghost use Rattle.nres_types.specs.Findings.{wrongs};
 ghost use Rattle.nres_types.specs.Bodies.{gives_of};
 

@@ -13,8 +13,6 @@ mod profiles;
 mod refusal;
 mod scope;
 mod specs;
-#[cfg(test)]
-mod tests;
 mod words;
 
 pub use refusal::TypeRefusal;

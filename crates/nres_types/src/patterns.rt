@@ -4,7 +4,7 @@ ghost use Rattle.std.specs.Prelude.{◌≡◌, [], Some, None, true, cond, IfOk,
 ghost use Rattle.indexmap.specs.IndexSet.{contains, Updates};
 ghost use Rattle.nres_core.specs.Mirror.{named_params};
 ghost use Rattle.nres_core.specs.Tree.{same_name};
-ghost use Rattle.nres_core.specs.Types as types;
+ghost use Rattle.nres_rules.specs.Types as types;
 ghost use Rattle.nres_types.specs.Findings.{wrongs};
 
 use crate::fault::{Fault, wants};

@@ -1,7 +1,7 @@
 //! What procedures take and give.
 
 ghost use Rattle.std.specs.Prelude.{◌≡◌, ◌++◌, [], length, IfOk, OnOk};
-ghost use Rattle.nres_core.specs.Types as types;
+ghost use Rattle.nres_rules.specs.Types as types;
 ghost use Rattle.nres_types.specs.Procedures.{profile_view, known_profile, shown_profile};
 
 use indexmap::IndexMap;
@@ -55,7 +55,7 @@ pub(crate) struct Profiles<'a> {
 
 impl<'a> Model for Profiles<'a> {
     ghost use Rattle.std.specs.Prelude.{List};
-    ghost use Rattle.nres_core.specs.Types as kinds;
+    ghost use Rattle.nres_rules.specs.Types as kinds;
     ghost use Rattle.nres_types.specs.Firsts.{IsFirst};
 
     ghost Value = { List kinds.Profile };

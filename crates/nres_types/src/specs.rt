@@ -3,7 +3,7 @@
 ghost use Rattle.std.specs.Prelude.{◌≡◌, ◌≢◌, ◌&&◌, [], Some, cond, count_by, map, not, IfOk, IfErr, IsErr, IsSome, OnOk};
 ghost use Rattle.nres_core.specs.declared.tree.Typing.{Typing};
 ghost use Rattle.nres_core.specs.Mirror.{blk_of, named_params};
-ghost use Rattle.nres_core.specs.Types as kinds;
+ghost use Rattle.nres_rules.specs.Types as kinds;
 ghost use Rattle.nres_types.specs.Findings.{told_of, wrongs, joined, noted, blk_told};
 ghost use Rattle.nres_types.specs.Wholes.{typed_told, IsTold, IsTypedBy};
 

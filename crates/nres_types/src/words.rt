@@ -1,14 +1,14 @@
 //! What each operation word takes and gives.
 
 ghost use Rattle.std.specs.Prelude.{◌≡◌};
-ghost use Rattle.nres_core.specs.Types.{rep_type};
-ghost use Rattle.nres_core.specs.Types as types;
+ghost use Rattle.nres_rules.specs.Types as types;
 ghost use Rattle.nres_types.specs.Findings.{wrongs};
-ghost use Rattle.nres_types.specs.Words.{sig_value, sort_sig, table_sigs};
+ghost use Rattle.nres_core.specs.Operations.{at_known, entry};
+ghost use Rattle.nres_types.specs.Signatures.{sig_value};
 
 use crate::fault::{Fault, same_type};
-use nres_core::Ty::{Bag, List, Map, Nat, Set};
-use nres_core::{Chosen, Op, Place, Ty};
+use nres_core::Ty::{Bag, List, Nat};
+use nres_core::{ByType, Chosen, Meant, Op, OpEntry, Place, Ty, look_up, rep_type};
 use target_code::{Calc, Rep};
 
 /// What a word takes and gives, its operation, and the type of the first argument where the word has no operation for it.
@@ -18,61 +18,6 @@ pub(crate) struct Signature {
     pub(crate) to: Option<Ty>,
     pub(crate) op: Option<Op>,
     pub(crate) lacks: Option<Ty>,
-}
-
-/// How an operation word is typed.
-#[derive(Clone, Copy)]
-pub(crate) enum Sort {
-    /// It takes these types and gives that one.
-    Fixed(&'static [Ty], Ty, Op),
-    /// `copy`.
-    Copy,
-    /// `empty`.
-    Empty,
-    /// `size`.
-    Size,
-    /// `has`.
-    Has,
-}
-
-/// The operation words.
-pub(crate) const WORDS: [(&[u8], Sort); 22] = [
-    (b"zeros", Sort::Fixed(&[Nat], List, Op::Zeros)),
-    (b"nil", Sort::Fixed(&[], List, Op::Nil)),
-    (b"len", Sort::Fixed(&[List], Nat, Op::Len)),
-    (b"get", Sort::Fixed(&[List, Nat], Nat, Op::Get)),
-    (b"set", Sort::Fixed(&[List, Nat, Nat], List, Op::SetAt)),
-    (b"swap", Sort::Fixed(&[List, Nat, Nat], List, Op::Swap)),
-    (b"push", Sort::Fixed(&[List, Nat], List, Op::Push)),
-    (b"copy", Sort::Copy),
-    (b"empty", Sort::Empty),
-    (b"size", Sort::Size),
-    (b"has", Sort::Has),
-    (b"insert", Sort::Fixed(&[Set, Nat], Set, Op::Insert)),
-    (b"remove", Sort::Fixed(&[Set, Nat], Set, Op::Remove)),
-    (b"pick", Sort::Fixed(&[Set], Nat, Op::Pick)),
-    (b"union", Sort::Fixed(&[Set, Set], Set, Op::Union)),
-    (b"elems", Sort::Fixed(&[Set], List, Op::Elems)),
-    (b"lookup", Sort::Fixed(&[Map, Nat], Nat, Op::Lookup)),
-    (b"put", Sort::Fixed(&[Map, Nat, Nat], Map, Op::Put)),
-    (b"del", Sort::Fixed(&[Map, Nat], Map, Op::Del)),
-    (b"keys", Sort::Fixed(&[Map], List, Op::Keys)),
-    (b"add", Sort::Fixed(&[Bag, Nat], Bag, Op::Add)),
-    (b"minimum", Sort::Fixed(&[Bag], Nat, Op::Minimum)),
-];
-
-/// The type that a representation is of.
-pub(crate) fn rep_type(rep: Rep) -> Ty
-    ensures { result ≡ rep_type rep }
-{
-    match rep {
-        Rep::Word => Nat,
-        Rep::Flag => Ty::Bool,
-        Rep::Array | Rep::Slice | Rep::Vec => List,
-        Rep::Bits(_) | Rep::Hset => Set,
-        Rep::Amap(_) | Rep::Hmap => Map,
-        Rep::Heap => Bag,
-    }
 }
 
 fn takes(from: &'static [Ty], to: Ty, op: Op) -> Signature
@@ -98,80 +43,90 @@ fn unsettled(to: Option<Ty>, lacks: Option<Ty>) -> Signature
     }
 }
 
-fn size_of(first: Option<Ty>) -> Signature
-    ensures { sig_value result ≡ types.size_of first }
+/// The signature of an operation; a word that takes an element out stands in no expression.
+fn of_op(op: Op) -> Signature
+    ensures { sig_value result ≡ types.entry_sig (entry op) op }
 {
-    match first {
-        Some(Set) => takes(&[Set], Nat, Op::SizeSet),
-        Some(Map) => takes(&[Map], Nat, Op::SizeMap),
-        Some(Bag) => takes(&[Bag], Nat, Op::SizeBag),
-        _ => unsettled(Some(Nat), first),
+    match op.entry() {
+        OpEntry::Gives(from, to) | OpEntry::Makes(from, to) => takes(from, to, op),
+        OpEntry::TakesOut(_) => unsettled(None, None),
     }
 }
 
-fn has_in(first: Option<Ty>) -> Signature
-    ensures { sig_value result ≡ types.has_in first }
+/// By the operation, where there is one.
+fn settled(op: Option<Op>, to: Option<Ty>, lacks: Option<Ty>) -> Signature
+    ensures { sig_value result ≡ types.settled op to lacks }
 {
-    match first {
-        Some(Set) => takes(&[Set, Nat], Ty::Bool, Op::HasSet),
-        Some(Map) => takes(&[Map, Nat], Ty::Bool, Op::HasMap),
-        _ => unsettled(Some(Ty::Bool), first),
+    match op {
+        Some(op) => of_op(op),
+        None => unsettled(to, lacks),
     }
 }
 
-fn copy_of(first: Option<Ty>) -> Signature
-    ensures { sig_value result ≡ types.copy_of first }
+/// The operation for a type that may be unknown.
+fn at_known(ty: Option<Ty>, ops: ByType) -> Option<Op>
+    ensures { result ≡ at_known ty ops }
 {
-    match first {
-        Some(List) => takes(&[List], List, Op::CopyList),
-        Some(Set) => takes(&[Set], Set, Op::CopySet),
-        Some(Map) => takes(&[Map], Map, Op::CopyMap),
-        Some(Bag) => takes(&[Bag], Bag, Op::CopyBag),
-        _ => unsettled(None, first),
-    }
+    ops.at(ty?)
 }
 
-/// `empty`, by its representation.
-fn empty_as(rep: Option<Rep>) -> Signature
-    ensures { sig_value result ≡ types.empty_at (types.made_type rep) }
+/// The operation for the representation that is chosen.
+fn at_made(rep: Option<Rep>, ops: ByType) -> Option<Op>
+    ensures { result ≡ at_known (types.made_type rep) ops }
 {
     match rep {
-        Some(Rep::Bits(_) | Rep::Hset) => takes(&[], Set, Op::EmptySet),
-        Some(Rep::Amap(_) | Rep::Hmap) => takes(&[], Map, Op::EmptyMap),
-        Some(Rep::Heap) => takes(&[], Bag, Op::EmptyBag),
-        _ => unsettled(None, None),
+        Some(rep) => ops.at(rep_type(rep)),
+        None => None,
     }
 }
 
-/// The signature of a word of this sort, with this representation, whose first argument has this type.
-fn of_sort(sort: Sort, rep: Option<Rep>, first: Option<Ty>) -> Signature
-    ensures { sig_value result ≡ sort_sig sort rep first }
+/// The signature of what a word stands for, with the representation that is chosen for it, whose first argument has this type.
+fn meant_signature(meant: Option<Meant>, rep: Option<Rep>, first: Option<Ty>) -> Signature
+    ensures { sig_value result ≡ types.meant_sig meant rep first }
 {
-    match sort {
-        Sort::Fixed(from, to, op) => takes(from, to, op),
-        Sort::Copy => copy_of(first),
-        Sort::Empty => empty_as(rep),
-        Sort::Size => size_of(first),
-        Sort::Has => has_in(first),
+    match meant {
+        None => unsettled(None, None),
+        Some(Meant::Always(op)) => of_op(op),
+        Some(Meant::ByFirst(ops, to)) => settled(at_known(first, ops), to, first),
+        Some(Meant::ByMade(ops)) => settled(at_made(rep, ops), None, None),
     }
 }
 
-fn in_table(table: &[(&[u8], Sort)], word: &[u8], rep: Option<Rep>, first: Option<Ty>) -> Signature
-    ensures { sig_value result ≡ types.word_in word.now (table_sigs rep first table.now) }
-{
-    for (known, sort) in table {
-        if word == *known {
-            return of_sort(*sort, rep, first);
-        }
-    }
-    unsettled(None, None)
-}
-
-/// The signature of a word, with the representation that is chosen for it, whose first argument has this type.
+/// The signature of a word.
 pub(crate) fn signature_of(word: &[u8], rep: Option<Rep>, first: Option<Ty>) -> Signature
     ensures { sig_value result ≡ types.sig_of (word.now, rep) first }
 {
-    in_table(&WORDS, word, rep, first)
+    meant_signature(look_up(word), rep, first)
+}
+
+/// The operation that takes an element out, by what its word stands for.
+fn meant_taker(meant: Option<Meant>) -> Op
+    ensures { result ≡ types.meant_taker meant }
+{
+    match meant {
+        Some(Meant::Always(op)) => match op.entry() {
+            OpEntry::TakesOut(_) => op,
+            OpEntry::Gives(_, _) | OpEntry::Makes(_, _) => Op::TakeMin,
+        },
+        Some(Meant::ByFirst(_, _) | Meant::ByMade(_)) | None => Op::TakeMin,
+    }
+}
+
+/// The operation that takes an element out, by its word.
+pub(crate) fn taker(word: &[u8]) -> Op
+    ensures { result ≡ types.take_op word.now }
+{
+    meant_taker(look_up(word))
+}
+
+/// The type of container that an operation takes an element out of.
+pub(crate) fn taken_from(op: Op) -> Ty
+    ensures { result ≡ types.taken_from (entry op) }
+{
+    match op.entry() {
+        OpEntry::TakesOut(from) => from,
+        OpEntry::Gives(_, _) | OpEntry::Makes(_, _) => Bag,
+    }
 }
 
 /// What the operands of a calculation are.
@@ -219,15 +174,37 @@ pub(crate) fn rep_fits<'a>(place: Place, ty: Ty, rep: Rep) -> Option<Fault<'a>>
     }
 }
 
-fn other_made<'a>(chosen: Chosen) -> Option<Fault<'a>>
-    ensures { wrongs result ≡ types.other_made chosen (rep_type chosen.rep) }
+/// The fault of a representation of a type for which a constructor has no operation.
+fn made_by<'a>(chosen: Chosen, op: Option<Op>) -> Option<Fault<'a>>
+    ensures { wrongs result ≡ types.made_by chosen.place chosen.rep op }
 {
-    match rep_type(chosen.rep) {
-        Set | Map | Bag => None,
-        _ => Some(Fault::OtherRep {
+    match op {
+        Some(_) => None,
+        None => Some(Fault::OtherRep {
             place: chosen.place,
             rep: chosen.rep,
         }),
+    }
+}
+
+/// The type of the representation that an operation wants.
+fn made_as(op: Op) -> Ty
+    ensures { result ≡ types.made_as (entry op) }
+{
+    match op.entry() {
+        OpEntry::Makes(_, to) => to,
+        OpEntry::Gives(_, _) | OpEntry::TakesOut(_) => List,
+    }
+}
+
+/// The fault of a constructor, by what its word stands for.
+fn meant_fits<'a>(meant: Option<Meant>, chosen: Chosen) -> Option<Fault<'a>>
+    ensures { wrongs result ≡ types.meant_fits meant chosen }
+{
+    match meant {
+        Some(Meant::Always(op)) => rep_fits(chosen.place, made_as(op), chosen.rep),
+        Some(Meant::ByMade(ops)) => made_by(chosen, ops.at(rep_type(chosen.rep))),
+        Some(Meant::ByFirst(_, _)) | None => rep_fits(chosen.place, List, chosen.rep),
     }
 }
 
@@ -237,8 +214,7 @@ pub(crate) fn made_fits<'a>(word: &[u8], made: Option<Chosen>) -> Option<Fault<'
     ensures { wrongs result ≡ types.made_fits word.now made }
 {
     match made {
-        Some(chosen) if word == b"empty".as_slice() => other_made(chosen),
-        Some(chosen) => rep_fits(chosen.place, List, chosen.rep),
+        Some(chosen) => meant_fits(look_up(word), chosen),
         None => None,
     }
 }

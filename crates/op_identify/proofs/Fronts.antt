@@ -2,7 +2,7 @@
 use Rattle.std.proofs.lemmas.List.{drop_all}
 use Rattle.std.proofs.Common.{arith, ◌≡◌, ℕ, suc, ◌+◌, ◌<◌, ◌≤◌, List, [], ◌∷◌, ◌++◌, drop, take, length, get_or, refl, ap, ◌∙◌, sym, subst}
 use Rattle.std.proofs.Math.Seq.{drop-cons, take-suc}
-use Rattle.nres_core.specs.Identify.{FunIdentifies, id_blk, id_exp, id_exps, id_steps}
+use Rattle.nres_rules.specs.Identify.{FunIdentifies, id_blk, id_exp, id_exps, id_steps}
 use Rattle.nres_core.specs.Mirror.{exp_of, blk_of, all_exps, all_steps, before, id_exp_of, id_before, all_id_exps, all_id_steps}
 use Rattle.nres_core.specs.Tree as t
 use Rattle.nres_core.specs.Tree.{Exp, Exps, Steps}

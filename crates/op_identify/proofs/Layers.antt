@@ -1,10 +1,10 @@
 -- The outermost layer of trees.
-use Rattle.std.proofs.Common.{◌≡◌, ℕ, List, Option, refl, ap, ◌∙◌, sym}
-use Rattle.nres_core.specs.Identify.{next_op, other_ops, id_exp, id_exps, id_blk, id_steps}
-use Rattle.nres_core.specs.Mirror.{rep_of, exp_of, blk_of, all_exps, all_steps, id_exp_of, id_blk_of, all_id_exps, all_id_steps}
+use Rattle.std.proofs.Common.{◌≡◌, ℕ, List, Option, ap, ◌∙◌, sym}
+use Rattle.nres_rules.specs.Identify.{next_op, other_ops, id_exp, id_exps, id_blk, id_steps}
+use Rattle.nres_core.specs.Mirror.{exp_of, blk_of, all_exps, all_steps, id_exp_of, id_blk_of, all_id_exps, all_id_steps}
 use Rattle.nres_core.specs.Tree as t
 use Rattle.nres_core.specs.Tree.{Exps, Steps, Word}
-use Rattle.nres_core.specs.declared.identified.IdBlock.{IdBlock, roll-IdBlock}
+use Rattle.nres_core.specs.declared.identified.IdBlock.{roll-IdBlock}
 use Rattle.nres_core.specs.declared.identified.IdExpr.{IdExpr}
 use Rattle.nres_core.specs.declared.identified.IdExpr.TheVariants as ide
 use Rattle.nres_core.specs.declared.identified.IdStep.{IdStep}

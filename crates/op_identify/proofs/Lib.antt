@@ -1,3 +1,3 @@
 mod Layers
 mod Fronts
-mod Words
+mod TypedWords

@@ -1,6 +1,6 @@
 -- What stands in front of a tree whose words are replaced one after another.
 use Rattle.std.specs.Prelude.{◌≡◌, List, [], ◌∷◌}
-use Rattle.nres_core.specs.Identify.{FunIdentifies, id_blk, id_steps}
+use Rattle.nres_rules.specs.Identify.{FunIdentifies, id_blk, id_steps}
 use Rattle.nres_core.specs.Mirror.{blk_of, id_exp_of, id_before}
 use Rattle.nres_core.specs.Tree as t
 use Rattle.nres_core.specs.Tree.{Exps, Steps, Word}

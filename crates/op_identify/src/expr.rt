@@ -1,7 +1,7 @@
 //! Expressions.
 
 ghost use Rattle.std.specs.Prelude.{◌≡◌, IfOk};
-ghost use Rattle.nres_core.specs.Identify.{id_exp, id_exps};
+ghost use Rattle.nres_rules.specs.Identify.{id_exp, id_exps};
 ghost use Rattle.nres_core.specs.Mirror.{exp_of, all_exps, id_exp_of, all_id_exps};
 
 use crate::copy;
@@ -31,21 +31,18 @@ pub fn expr(alloc: Global, tree: &Expr, ops: &mut Ops) -> Result<IdExpr, AllocEr
             left,
             right,
         } => {
-            let left = expr(alloc, left.get(), ops)?;
-            let right = expr(alloc, right.get(), ops)?;
+            let left = boxed(alloc, left.get(), ops)?;
+            let right = boxed(alloc, right.get(), ops)?;
             Ok(IdExpr::Binary {
                 place: *place,
                 word: *word,
-                left: Boxed::new(alloc, left)?,
-                right: Boxed::new(alloc, right)?,
+                left,
+                right,
             })
         }
         Expr::Not { place, arg } => {
-            let arg = expr(alloc, arg.get(), ops)?;
-            Ok(IdExpr::Not {
-                place: *place,
-                arg: Boxed::new(alloc, arg)?,
-            })
+            let arg = boxed(alloc, arg.get(), ops)?;
+            Ok(IdExpr::Not { place: *place, arg })
         }
         Expr::Apply {
             place,
@@ -54,14 +51,24 @@ pub fn expr(alloc: Global, tree: &Expr, ops: &mut Ops) -> Result<IdExpr, AllocEr
             ..
         } => {
             let word = ops.take();
+            let args = exprs(alloc, args.as_slice(), ops)?;
             Ok(IdExpr::Apply {
                 place: *place,
                 word,
-                args: exprs(alloc, args.as_slice(), ops)?,
+                args,
                 made: *made,
             })
         }
     }
+}
+
+/// An operand.
+#[cycle(expr)]
+fn boxed(alloc: Global, tree: &Expr, ops: &mut Ops) -> Result<Boxed<IdExpr>, AllocError>
+    ensures { IfOk result (λ e. (id_exp_of e, ops.new) ≡ id_exp (exp_of tree.now) ops.old) }
+{
+    let tree = expr(alloc, tree, ops)?;
+    Boxed::new(alloc, tree)
 }
 
 /// Expressions, in order.

@@ -1,7 +1,7 @@
 //! The operations of the words that were not met yet.
 
 ghost use Rattle.std.specs.Prelude.{◌≡◌};
-ghost use Rattle.nres_core.specs.Identify.{next_op, other_ops};
+ghost use Rattle.nres_rules.specs.Identify.{next_op, other_ops};
 
 use nres_core::Op;
 use std::marker::Model;

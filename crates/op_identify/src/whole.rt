@@ -1,17 +1,18 @@
 //! Whole specifications.
 
 ghost use Rattle.std.specs.Prelude.{◌≡◌, IfOk};
-ghost use Rattle.nres_core.specs.Identify.{FunIdentifies, Identifies, id_blk};
-ghost use Rattle.nres_core.specs.Mirror.{blk_of};
-ghost use Rattle.nres_core.specs.Types.{HasTyping};
+ghost use Rattle.nres_rules.specs.Identify.{FunIdentifies, Identifies, id_blk};
+ghost use Rattle.nres_core.specs.Mirror.{blk_of, id_blk_of};
+ghost use Rattle.nres_rules.specs.Types.{HasTyping};
 ghost use Rattle.op_identify.specs.Fronts.{FunsBegin};
 
 use crate::block::block;
 use crate::copy;
 use crate::ops::Ops;
-use nres_core::{Fun, IdFun, Identified, Spec, Typing};
+use nres_core::{Block, Fun, IdBlock, IdFun, Identified, Param, Shown, Spec, Typing};
 use sqlite_items::Items;
 use std::alloc::{AllocError, Global};
+use target_code::Name;
 
 /// The specification with each word replaced by the operation that its typing gives it.
 pub fn identify(alloc: Global, spec: &Spec, typing: &Typing) -> Result<Identified, AllocError>
@@ -19,14 +20,61 @@ pub fn identify(alloc: Global, spec: &Spec, typing: &Typing) -> Result<Identifie
     ensures { IfOk result (λ tree. Identifies spec.now typing.now tree) }
 {
     let mut ops = Ops::new(typing.words.as_slice());
-    let body = block(alloc, &spec.body, &mut ops)?;
-    Ok(Identified {
-        name: spec.name.copy(alloc)?,
-        params: copy::params(alloc, spec.params.as_slice())?,
-        shown: Items::from_slice(alloc, spec.shown.as_slice())?,
-        body,
-        funs: funs(alloc, spec.funs.as_slice(), &mut ops)?,
-    })
+    let (params, shown) = (spec.params.as_slice(), spec.shown.as_slice());
+    let head = head(alloc, &spec.name, params, shown)?;
+    match bodies(alloc, &spec.body, spec.funs.as_slice(), &mut ops) {
+        Ok((body, funs)) => {
+            let (name, params, shown) = head;
+            Ok(Identified {
+                name,
+                params,
+                shown,
+                body,
+                funs,
+            })
+        }
+        Err(error) => {
+            drop(head);
+            Err(error)
+        }
+    }
+}
+
+/// A name, its parameters and what it shows.
+fn head(
+    alloc: Global,
+    name: &Name,
+    params: &[Param],
+    shown: &[Shown],
+) -> Result<(Name, Items<Param>, Items<Shown>), AllocError>
+    ensures name { IfOk result (λ x. x.0 ≡ name.now) }
+    ensures params { IfOk result (λ x. x.1 ≡ params.now) }
+    ensures shown { IfOk result (λ x. x.2 ≡ shown.now) }
+{
+    let name = name.copy(alloc)?;
+    let params = copy::params(alloc, params)?;
+    let shown = Items::from_slice(alloc, shown)?;
+    Ok((name, params, shown))
+}
+
+/// What the specification computes, and then the procedures.
+fn bodies(
+    alloc: Global,
+    tree: &Block,
+    list: &[Fun],
+    ops: &mut Ops,
+) -> Result<(IdBlock, Items<IdFun>), AllocError>
+    ensures body { IfOk result (λ x. id_blk_of x.0 ≡ (id_blk (blk_of tree.now) ops.old).0) }
+    ensures funs { IfOk result (λ x. FunsBegin list.now (id_blk (blk_of tree.now) ops.old).1 x.1 ops.new) }
+{
+    let body = block(alloc, tree, ops)?;
+    match funs(alloc, list, ops) {
+        Ok(funs) => Ok((body, funs)),
+        Err(error) => {
+            drop(body);
+            Err(error)
+        }
+    }
 }
 
 /// The procedures, in the order of the text.
@@ -44,12 +92,22 @@ fn fun(alloc: Global, fun: &Fun, ops: &mut Ops) -> Result<IdFun, AllocError>
     ensures same { IfOk result (λ f. FunIdentifies fun.now ops.old f) }
     ensures left { IfOk result (λ f. ops.new ≡ (id_blk (blk_of fun.now.body) ops.old).1) }
 {
-    let body = block(alloc, &fun.body, ops)?;
-    Ok(IdFun {
-        name: fun.name.copy(alloc)?,
-        place: fun.place,
-        params: copy::params(alloc, fun.params.as_slice())?,
-        shown: Items::from_slice(alloc, fun.shown.as_slice())?,
-        body,
-    })
+    let (params, shown) = (fun.params.as_slice(), fun.shown.as_slice());
+    let head = head(alloc, &fun.name, params, shown)?;
+    match block(alloc, &fun.body, ops) {
+        Ok(body) => {
+            let (name, params, shown) = head;
+            Ok(IdFun {
+                name,
+                place: fun.place,
+                params,
+                shown,
+                body,
+            })
+        }
+        Err(error) => {
+            drop(head);
+            Err(error)
+        }
+    }
 }

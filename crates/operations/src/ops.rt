@@ -11,8 +11,6 @@ mod list;
 mod map;
 mod results;
 mod set;
-#[cfg(test)]
-mod tests;
 
 use nres_core::{NumBag, NumMap, NumSet, Nums, Op, Value};
 use results::{MOST, single};

@@ -5,8 +5,8 @@ use Rattle.std.proofs.Math.Seq.{take-append_seam}
 use Rattle.std.proofs.lemmas.List.{length-append, length-replicate}
 use Rattle.std.specs.Prelude.{◌-◌, ◌^◌, max, replicate, slice_index, T}
 use Rattle.std.proofs.lemmas.Bool.{and_parts, cond-true}
-use Rattle.numbers.specs.Bag as bags
-use Rattle.numbers.specs.Bag.{Bag, bag_of, rises_from, place, sorted_list}
+use Rattle.containers.specs.Bag as bags
+use Rattle.containers.specs.Bag.{Bag, bag_of, rises_from, place, sorted_list}
 use Rattle.nres_core.specs.declared.value.Value.TheVariants as v
 use Rattle.target_code.specs.declared.tree.Rep.TheVariants as rep
 use Rattle.relations.specs.Blocks.{AreWords, block}

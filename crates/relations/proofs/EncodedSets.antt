@@ -3,8 +3,8 @@ use Rattle.std.proofs.Common.{◌≡◌, ℕ, zero, suc, ◌+◌, ◌/◌, ◌%�
 use Rattle.std.proofs.Math.Path.{fun_ext}
 use Rattle.std.proofs.lemmas.Bool.{cond-false}
 use Rattle.std.specs.Cmp.{nat_cmp_total}
-use Rattle.numbers.specs.Sets as sets
-use Rattle.numbers.proofs.SetItems.{contains-items}
+use Rattle.containers.specs.Sets as sets
+use Rattle.containers.proofs.SetItems.{contains-items}
 use Rattle.std.specs.Int.{bit_at}
 use Rattle.std.specs.List.{list_any}
 use Rattle.std.specs.Ordering.{nat_cmp, eq_by_cmp}

@@ -10,8 +10,8 @@ use Rattle.std.specs.List.{list_any}
 use Rattle.std.specs.Option.{is_some}
 use Rattle.std.specs.Ordering.{nat_cmp, eq_by_cmp}
 use Rattle.std.specs.Prelude.{◌-◌, Option, Some, None}
-use Rattle.numbers.specs.Bag as bags
-use Rattle.numbers.specs.Bag.{bag_of}
+use Rattle.containers.specs.Bag as bags
+use Rattle.containers.specs.Bag.{bag_of}
 use Rattle.relations.specs.Blocks.{block, range, whole_piece}
 use Rattle.relations.specs.Represents.{Set, Map, one_if, state, key, value, IsTable, IsReached}
 use Rattle.relations.specs.Samples.{set_of, map_of, pair_words}

@@ -2,7 +2,7 @@
 use Rattle.std.specs.Prelude.{ℕ, zero, suc, ◌+◌, ◌-◌, ◌*◌, ◌/◌, ◌%◌, ◌^◌, max, List, [], ◌∷◌, ◌++◌, length, drop, replicate, nat_lt, nat_le, ◌==◌, if◌then◌else◌, slice_index, slice_set}
 use Rattle.std.specs.Prelude.{Option, Some, None}
 use Rattle.std.specs.FinMap as maps
-use Rattle.numbers.specs.Sets as sets
+use Rattle.containers.specs.Sets as sets
 use Rattle.std.specs.List.{list_all}
 use Rattle.nres_core.specs.declared.value.Value.{Value}
 use Rattle.nres_core.specs.declared.value.Value.TheVariants as v

@@ -2,8 +2,8 @@
 use Rattle.std.specs.Prelude.{◌≡◌, ℕ, suc, ◌^◌, ◌<◌, List, [], ◌∷◌, ◌++◌, Bool, true, length, replicate, codes}
 use Rattle.std.specs.Prelude.{Some, None}
 use Rattle.std.specs.FinMap as maps
-use Rattle.numbers.specs.Sets as sets
-use Rattle.numbers.specs.Bag.{Bag, bag_of}
+use Rattle.containers.specs.Sets as sets
+use Rattle.containers.specs.Bag.{Bag, bag_of}
 use Rattle.nres_core.specs.declared.value.Value.{Value}
 use Rattle.nres_core.specs.declared.value.Value.TheVariants as v
 use Rattle.target_code.specs.declared.tree.Rep.{Rep}

@@ -4,7 +4,7 @@ use Rattle.std.specs.FinMap as maps
 use Rattle.std.specs.FinSet as sets
 use Rattle.std.specs.Int.{bit_at}
 use Rattle.std.specs.Ordering.{nat_cmp}
-use Rattle.numbers.specs.Bag.{Bag, bag_of}
+use Rattle.containers.specs.Bag.{Bag, bag_of}
 use Rattle.nres_core.specs.declared.value.Value.{Value}
 use Rattle.nres_core.specs.declared.value.Value.TheVariants as v
 use Rattle.target_code.specs.declared.tree.Rep.{Rep}

@@ -2,7 +2,7 @@
 use Rattle.std.specs.Prelude.{ℕ, true, List, [], ◌∷◌}
 use Rattle.std.specs.FinMap as maps
 use Rattle.std.specs.FinSet as sets
-use Rattle.numbers.specs.Bag.{bag_of}
+use Rattle.containers.specs.Bag.{bag_of}
 use Rattle.nres_core.specs.declared.value.Value.TheVariants as v
 use Rattle.target_code.specs.declared.tree.Rep.TheVariants as rep
 use Rattle.target_meaning.specs.Piece.{none}

@@ -4,9 +4,6 @@ ghost use Rattle.std.specs.Prelude.{◌≡◌, ◌-◌, ◌∷◌, [], length, d
 ghost use Rattle.scopes.specs.Names.{all_but_last};
 ghost use Rattle.scopes.specs.Names.{found_in};
 
-#[cfg(test)]
-mod tests;
-
 use indexmap::IndexMap;
 use std::alloc::{AllocError, Global};
 use std::marker::Model;

@@ -8,11 +8,11 @@ ghost use Rattle.sep_io.specs.Faults.{Rose};
 use thiserror::Error;
 
 /// A read or a write failed, and the count of faults of the object that failed rose.
-#[derive(Clone, Copy, PartialEq, Eq, Debug)]
+#[derive(Clone, Copy)]
 pub struct Failed;
 
 /// Why a source was not read to its end.
-#[derive(Clone, Copy, PartialEq, Eq, Debug, Error)]
+#[derive(Clone, Copy, Debug, Error)]
 pub enum ReadEnd {
     /// A read failed.
     #[error("read fault")]

@@ -6,8 +6,6 @@ mod script;
 mod sinks;
 mod sources;
 mod standard;
-#[cfg(test)]
-mod tests;
 mod transfer;
 
 pub use edge::{Failed, ReadEnd, Sink, Source};

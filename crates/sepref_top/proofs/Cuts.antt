@@ -1,8 +1,8 @@
 -- Where the values behind a program begin.
 use Rattle.std.proofs.Common.{◌≡◌, ℕ, ◌+◌, ◌≤◌, Bool, true, false, ◌&&◌, if◌then◌else◌, nat_eq, List, [], ◌∷◌, take, drop, length, Result, Ok, Err, ◌≢◌, refl, ap, ◌∙◌, sym, subst}
 use Rattle.nres_core.specs.declared.place.Place.{Place}
-use Rattle.nres_machine.specs.declared.refusal.SyntaxRefusal.{SyntaxRefusal}
-use Rattle.nres_machine.specs.declared.refusal.SyntaxRefusal.TheVariants as refusal
+use Rattle.nres_automaton.specs.declared.refusal.SyntaxRefusal.{SyntaxRefusal}
+use Rattle.nres_automaton.specs.declared.refusal.SyntaxRefusal.TheVariants as refusal
 use Rattle.sepref_top.specs.Executions.{begins_values, feeds, front_of, rest_of}
 
 -- so many bytes of the front and their line feeds are counted; the truth value says whether a line begins behind them

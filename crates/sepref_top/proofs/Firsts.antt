@@ -17,7 +17,7 @@ use Rattle.nres_meaning.proofs.Lively.{fails_first, gives_first, whole_lively}
 use Rattle.nres_meaning.proofs.Steps.{fails, gives}
 use Rattle.nres_meaning.specs.Allowed.{Allows, CanFail, first_end}
 use Rattle.nres_meaning.specs.Meaning.{whole_runs}
-use Rattle.nres_meaning.specs.Words.{op_named}
+use Rattle.nres_meaning.specs.WordOperations.{op_named}
 
 pub first_allowed : (n d : ℕ) (p : Spec) (us vs : List Value) → first_end n d p us ≡ Gave vs → Allows p us vs
 first_allowed n d p us vs e =

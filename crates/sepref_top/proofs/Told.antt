@@ -6,26 +6,27 @@ use Rattle.sep_io.specs.Faults.{Gave}
 use Rattle.sep_lex.proofs.One as one
 use Rattle.nres_core.specs.Texts.{IsFile, SpecText, open_at_once, operators}
 use Rattle.nres_core.specs.Tokens.{first}
-use Rattle.nres_core.specs.Types.{Wrong, Unbound, Mismatch, Arity, No_operation, Duplicate, Other_rep, refusal_of}
-use Rattle.nres_core.specs.Words.{all_seen}
+use Rattle.nres_rules.specs.Types.{Wrong, Unbound, Mismatch, Arity, No_operation, Duplicate, Other_rep, refusal_of}
+use Rattle.nres_core.specs.Vocabulary.{all_seen}
 use Rattle.nres_core.specs.declared.place.Place.{Place}
 use Rattle.nres_core.specs.declared.tree.Spec.{Spec}
 use Rattle.nres_core.specs.declared.tree.With.{With}
-use Rattle.nres_machine.proofs.CompleteTexts as complete
-use Rattle.nres_machine.specs.Machine.{accepted, specification}
-use Rattle.nres_machine.specs.declared.refusal.SyntaxRefusal.{SyntaxRefusal}
-use Rattle.nres_machine.specs.declared.refusal.SyntaxRefusal.TheVariants as refusal
+use Rattle.nres_automaton.proofs.CompleteTexts as complete
+use Rattle.nres_automaton.specs.Automaton.{accepted, specification}
+use Rattle.nres_automaton.specs.declared.refusal.SyntaxRefusal.{SyntaxRefusal}
+use Rattle.nres_automaton.specs.declared.refusal.SyntaxRefusal.TheVariants as refusal
 use Rattle.nres_types.specs.declared.refusal.TypeRefusal.{TypeRefusal}
 use Rattle.nres_types.specs.declared.refusal.TypeRefusal.TheVariants as e
-use Rattle.sepref_top.specs.Answers.{Answers, AnswersExecution, AnswersSpec, HasFault, IsNone, Serves, TellsFault, Told, ToldBy, ToldExecution, Typed}
+use Rattle.sepref_top.specs.Answers.{Answers, AnswersAs, AnswersExecution, AnswersSpec, HasFault, IsNone, Serves, TellsFault, Told, ToldAs, ToldBy, ToldExecution, Typed}
 use Rattle.sepref_top.specs.Faults.{IsRefused}
 use Rattle.sepref_top.specs.Outcome.{AnswersUnlessLost}
-use Rattle.sepref_top.specs.Statuses.{HasFailed, HasFixedLine, TellsPlace, TellsText}
+use Rattle.sepref_top.specs.Statuses.{HasFailed, TellsPlace}
 use Rattle.sepref_top.specs.TypeLines.{refusal_line}
 use Rattle.sepref_top.specs.declared.status.Status.{Status}
 use Rattle.sepref_top.specs.declared.status.Status.TheVariants as status
 use Rattle.sepref_top.specs.declared.words.Command.{Command}
 use Rattle.sepref_top.specs.declared.words.Command.TheVariants as command
+use Rattle.sepref_top.specs.declared.words.Line.{Line}
 
 -- ---- a text has one tree
 
@@ -40,11 +41,11 @@ one_tree text p q ws vs s t =
 
 -- ---- texts of specifications
 
-of_typed : (c : Command) (text : List ℕ) (s : Status) (output : List ℕ) → Typed (λ p ws. Serves c p ws s output) text → Told c text s
-of_typed c text s output t = record {
+of_typed : (c : Command) (l : Line) (text : List ℕ) (s : Status) (output : List ℕ) → Typed (λ p ws. Serves c l p ws s output) text → Told c l text s
+of_typed c l text s output t = record {
   typed = λ p ws r ty.
       let same = one_tree text t.spec p t.withs ws t.reads r in
-      inl (output, subst (λ q. Serves c q ws s output) same.0 (subst (λ vs. Serves c t.spec vs s output) same.1 t.holds));
+      inl (output, subst (λ q. Serves c l q ws s output) same.0 (subst (λ vs. Serves c l t.spec vs s output) same.1 t.holds));
   untyped = λ w h.
       let same = one_tree text t.spec h.spec t.withs h.withs t.reads h.reads in
       let e : None ≡ Some w = sym t.typed ∙ ap refusal_of same.0 ∙ h.first in
@@ -52,15 +53,15 @@ of_typed c text s output t = record {
   none = λ n. absurd (n t.spec t.withs t.reads);
 }
 
-of_none : (c : Command) (text : List ℕ) (q : Place) (s : Status) → (s ≡ status.Syntax q) ⊎ (s ≡ status.TooDeep q) → IsNone text → Told c text s
-of_none c text q s m n = record {
+of_none : (c : Command) (l : Line) (text : List ℕ) (q : Place) (s : Status) → (s ≡ status.Syntax q) ⊎ (s ≡ status.TooDeep q) → IsNone text → Told c l text s
+of_none c l text q s m n = record {
   typed = λ p ws r ty. absurd (n p ws r);
   untyped = λ w h. absurd (n h.spec h.withs h.reads);
   none = λ k. elim m [ inl i ↦ subst (λ x. TellsPlace x ⊎ HasFailed x) (sym i) (inl tt) | inr i ↦ subst (λ x. TellsPlace x ⊎ HasFailed x) (sym i) (inl tt) ];
 }
 
-of_fault : (c : Command) (text : List ℕ) (w : Wrong) → HasFault text w → Told c text status.Type_
-of_fault c text w h = record {
+of_fault : (c : Command) (l : Line) (text : List ℕ) (w : Wrong) → HasFault text w → Told c l text status.Type_
+of_fault c l text w h = record {
   typed = λ p ws r ty.
       let same = one_tree text h.spec p h.withs ws h.reads r in
       let e : Some w ≡ None = sym h.first ∙ ap refusal_of same.0 ∙ ty in
@@ -69,91 +70,80 @@ of_fault c text w h = record {
   none = λ n. absurd (n h.spec h.withs h.reads);
 }
 
-of_spec : (c : Command) (text : List ℕ) (s : Status) (output : List ℕ) → TellsText s → AnswersSpec c text s output → Told c text s
-of_spec c text (status.Syntax q) output h a = of_none c text q _ (inl refl) a.none
-of_spec c text (status.TooDeep q) output h a = of_none c text q _ (inr refl) a.none
-of_spec c text status.Type_ output h a = of_fault c text a.fault a.is_first
-of_spec c text status.Done output h a = of_typed c text _ output a
-of_spec c text status.Input output h a = of_typed c text _ output a
-of_spec c text (status.NotProgram k) output h a = of_typed c text _ output a
-of_spec c text (status.Fails l) output h a = of_typed c text _ output a
-of_spec c text (status.OutOfTurns l) output h a = of_typed c text _ output a
-of_spec c text status.NotYet output h a = of_typed c text _ output a
-of_spec c text status.Usage output h a = absurd h
-of_spec c text status.TooLong output h a = absurd h
-of_spec c text status.ReadFault output h a = absurd h
-of_spec c text status.WriteFault output h a = absurd h
-of_spec c text status.Memory output h a = absurd h
+of_spec : (c : Command) (l : Line) (text : List ℕ) (s : Status) (output : List ℕ) → AnswersSpec c l text s output → Told c l text s
+of_spec c l text (status.Syntax q) output a = of_none c l text q _ (inl refl) a.none
+of_spec c l text (status.TooDeep q) output a = of_none c l text q _ (inr refl) a.none
+of_spec c l text status.Type_ output a = of_fault c l text a.fault a.is_first
+of_spec c l text status.Done output a = of_typed c l text _ output a
+of_spec c l text status.Input output a = of_typed c l text _ output a
+of_spec c l text (status.NotProgram k) output a = of_typed c l text _ output a
+of_spec c l text (status.Fails k) output a = of_typed c l text _ output a
+of_spec c l text (status.OutOfTurns k) output a = of_typed c l text _ output a
+of_spec c l text status.NotYet output a = of_typed c l text _ output a
+of_spec c l text status.Usage output a = of_typed c l text _ output a
+of_spec c l text status.TooLong output a = of_typed c l text _ output a
+of_spec c l text status.ReadFault output a = of_typed c l text _ output a
+of_spec c l text status.WriteFault output a = of_typed c l text _ output a
+of_spec c l text status.Memory output a = of_typed c l text _ output a
 
 -- ---- executions
 
-of_execution : (text : List ℕ) (s : Status) (output : List ℕ) → TellsText s → AnswersExecution text s output → ToldExecution text s
-of_execution text (status.NotProgram k) output h a = record {
+of_execution : (text : List ℕ) (s : Status) (output : List ℕ) → AnswersExecution text s output → ToldExecution text s
+of_execution text (status.NotProgram k) output a = record {
   no_program = λ n. inl tt;
   no_values = λ t p n. absurd (a.refused.no_text t p.formed p.is_text);
   other = λ t ws i. absurd (a.refused.no_text t i.program.formed i.program.is_text);
 }
-of_execution text (status.Syntax q) output h a = record {
+of_execution text (status.Syntax q) output a = record {
   no_program = λ n. absurd (n a.refused.tree a.refused.program);
   no_values = λ t p n. inl tt;
   other = λ t ws i. absurd (a.refused.none ws i.values);
 }
-of_execution text status.NotYet output h a = record {
+of_execution text status.NotYet output a = record {
   no_program = λ n. absurd (n a.program a.reads.program);
   no_values = λ u p n. absurd (n a.withs a.reads.values);
   other = λ u vs j. inl refl;
 }
-of_execution text status.Done output h a = absurd a
-of_execution text (status.TooDeep q) output h a = absurd a
-of_execution text status.Type_ output h a = absurd a
-of_execution text status.Input output h a = absurd a
-of_execution text (status.Fails l) output h a = absurd a
-of_execution text (status.OutOfTurns l) output h a = absurd a
-of_execution text status.Usage output h a = absurd h
-of_execution text status.TooLong output h a = absurd h
-of_execution text status.ReadFault output h a = absurd h
-of_execution text status.WriteFault output h a = absurd h
-of_execution text status.Memory output h a = absurd h
+of_execution text status.Done output a = absurd a
+of_execution text (status.TooDeep q) output a = absurd a
+of_execution text status.Type_ output a = absurd a
+of_execution text status.Input output a = absurd a
+of_execution text (status.Fails l) output a = absurd a
+of_execution text (status.OutOfTurns l) output a = absurd a
+of_execution text status.Usage output a = absurd a
+of_execution text status.TooLong output a = absurd a
+of_execution text status.ReadFault output a = absurd a
+of_execution text status.WriteFault output a = absurd a
+of_execution text status.Memory output a = absurd a
 
 -- ---- by command
 
-pub told : (c : Command) (text : List ℕ) (s : Status) (output : List ℕ) → TellsText s → Answers c text s output → ToldBy c text s
-told command.Check text s output h a = of_spec command.Check text s output h a
-told command.Synth text s output h a = of_spec command.Synth text s output h a
-told command.Eval text s output h a = of_spec command.Eval text s output h a
-told command.Run text s output h a = of_spec command.Run text s output h a
-told command.Exec text s output h a = of_execution text s output h a
+told_as : (c : Command) (l : Line) (text : List ℕ) (s : Status) (output : List ℕ) → AnswersAs c l text s output → ToldAs c l text s
+told_as command.Check l text s output a = of_spec command.Check l text s output a
+told_as command.Synth l text s output a = of_spec command.Synth l text s output a
+told_as command.Eval l text s output a = of_spec command.Eval l text s output a
+told_as command.Run l text s output a = of_spec command.Run l text s output a
+told_as command.Exec l text s output a = of_execution text s output a
 
-failed : (c : Command) (text : List ℕ) (s : Status) → HasFailed s → Told c text s
-failed c text s h = record { typed = λ p ws r t. inr h; untyped = λ w f. inr h; none = λ n. inr h }
+pub told : (l : Line) (text : List ℕ) (s : Status) (output : List ℕ) → Answers l text s output → ToldBy l text s
+told l = told_as l.command l
 
-pub failed_by : (c : Command) (text : List ℕ) (s : Status) → HasFailed s → ToldBy c text s
-failed_by command.Check text s h = failed command.Check text s h
-failed_by command.Synth text s h = failed command.Synth text s h
-failed_by command.Eval text s h = failed command.Eval text s h
-failed_by command.Run text s h = failed command.Run text s h
-failed_by command.Exec text s h = record { no_program = λ n. inr h; no_values = λ t p n. inr h; other = λ t ws i. inr h }
+failed : (c : Command) (l : Line) (text : List ℕ) (s : Status) → HasFailed s → Told c l text s
+failed c l text s h = record { typed = λ p ws r t. inr h; untyped = λ w f. inr h; none = λ n. inr h }
 
-pub unless_lost : (c : Command) (text : List ℕ) (s r : Status) → AnswersUnlessLost s r → ToldBy c text s → ToldBy c text r
-unless_lost c text s r (inl e) t = subst (λ x. ToldBy c text x) (sym e) t
-unless_lost c text s r (inr e) t = subst (λ x. ToldBy c text x) (sym e) (failed_by c text status.WriteFault tt)
+failed_as : (c : Command) (l : Line) (text : List ℕ) (s : Status) → HasFailed s → ToldAs c l text s
+failed_as command.Check l text s h = failed command.Check l text s h
+failed_as command.Synth l text s h = failed command.Synth l text s h
+failed_as command.Eval l text s h = failed command.Eval l text s h
+failed_as command.Run l text s h = failed command.Run l text s h
+failed_as command.Exec l text s h = record { no_program = λ n. inr h; no_values = λ t p n. inr h; other = λ t ws i. inr h }
 
--- what is answered without an output
-pub apart : (c : Command) (text : List ℕ) (s : Status) → HasFixedLine s → ¬ (s ≡ status.Usage) → ¬ (s ≡ status.TooLong) → (TellsText s → ToldBy c text s) → ToldBy c text s
-apart c text status.Usage h u l n = absurd (u refl)
-apart c text status.TooLong h u l n = absurd (l refl)
-apart c text status.ReadFault h u l n = failed_by c text status.ReadFault tt
-apart c text status.Memory h u l n = failed_by c text status.Memory tt
-apart c text status.NotYet h u l n = n tt
-apart c text status.Done h u l n = absurd h
-apart c text (status.Syntax q) h u l n = absurd h
-apart c text (status.TooDeep q) h u l n = absurd h
-apart c text status.Type_ h u l n = absurd h
-apart c text status.Input h u l n = absurd h
-apart c text (status.NotProgram k) h u l n = absurd h
-apart c text (status.Fails k) h u l n = absurd h
-apart c text (status.OutOfTurns k) h u l n = absurd h
-apart c text status.WriteFault h u l n = absurd h
+pub failed_by : (l : Line) (text : List ℕ) (s : Status) → HasFailed s → ToldBy l text s
+failed_by l = failed_as l.command l
+
+pub unless_lost : (l : Line) (text : List ℕ) (s r : Status) → AnswersUnlessLost s r → ToldBy l text s → ToldBy l text r
+unless_lost l text s r (inl e) t = subst (λ x. ToldBy l text x) (sym e) t
+unless_lost l text s r (inr e) t = subst (λ x. ToldBy l text x) (sym e) (failed_by l text status.WriteFault tt)
 
 -- ---- what is read is told by the reader
 

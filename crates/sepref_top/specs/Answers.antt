@@ -1,10 +1,11 @@
 -- What each status tells of the text that was read, and of what was written for it.
-use Rattle.std.specs.Prelude.{◌≡◌, ◌⊎◌, ℕ, true, List, Option, Some, None, Result, Ok, Err}
+use Rattle.std.specs.declared.alloc.AllocError.{AllocError}
+use Rattle.std.specs.Prelude.{◌≡◌, ◌⊎◌, ℕ, true, List, Option, Some, None, Result, Ok, Err, IfOk}
 use Rattle.std.specs.Io.KnownBytes.{Appends, Consumes, IsAtEnd}
 use Rattle.target_code.specs.declared.tree.Program.{Program}
 use Rattle.target_text.specs.Refusals.{RefusedAt as LineRefused}
 use Rattle.nres_core.specs.Texts.{SpecText}
-use Rattle.nres_core.specs.Types.{Wrong, refusal_of}
+use Rattle.nres_rules.specs.Types.{Wrong, refusal_of}
 use Rattle.nres_core.specs.declared.place.Place.{Place}
 use Rattle.nres_core.specs.declared.tree.Spec.{Spec}
 use Rattle.nres_core.specs.declared.tree.With.{With}
@@ -13,25 +14,26 @@ use Rattle.nres_core.specs.declared.value.Value.{Value}
 use Rattle.inputs.specs.Inputs.{inputs}
 use Rattle.sepref_top.specs.Evaluation.{Evaluated, GivesLines}
 use Rattle.sepref_top.specs.Executions.{HasNoValues, IsExecution, IsNoProgram, IsProgram, NoValuesAt, front_of}
-use Rattle.sepref_top.specs.Statuses.{HasFailed, HasFixedLine, TellsLine, TellsPlace, TellsText, line_of}
+use Rattle.sepref_top.specs.Statuses.{HasFailed, TellsLine, TellsPlace, TellsText, line_of}
 use Rattle.sepref_top.specs.Synthesis.{Canonical, Checked, Printed, Translated}
 use Rattle.sepref_top.specs.TypeLines.{type_line}
-use Rattle.sepref_top.specs.declared.output.Output.{Output}
+use Rattle.sepref_top.specs.Texts.{bytes_of}
+use Rattle.sepref_top.specs.declared.answer.Answer.{Answer}
 use Rattle.sepref_top.specs.declared.status.Status.{Status}
 use Rattle.sepref_top.specs.declared.status.Status.TheVariants as status
 use Rattle.sepref_top.specs.declared.words.Command.{Command}
 use Rattle.sepref_top.specs.declared.words.Command.TheVariants as command
+use Rattle.sepref_top.specs.declared.words.Line.{Line}
 
 -- ---- of texts of specifications
 
--- what a command says of a typed specification and the lines behind it
-abbrev pub Serves : Command → Spec → List With → Status → List ℕ → Type 0
-Serves command.Check p ws s output = Checked p s output
-Serves command.Synth p ws s output = Translated p s output
-Serves command.Eval p ws s output = Evaluated p ws s output
-Serves c p ws status.NotYet output = output ≡ line_of status.NotYet
-Serves c p ws status.Memory output = Unit {0}
-Serves c p ws s output = ⊥
+-- what a command says of a typed specification and the lines behind it, with the options of a command line
+abbrev pub Serves : Command → Line → Spec → List With → Status → List ℕ → Type 0
+Serves command.Check l p ws s output = Checked p s output
+Serves command.Synth l p ws s output = Translated p s output
+Serves command.Eval l p ws s output = Evaluated l.turns p ws s output
+Serves c l p ws status.NotYet output = output ≡ line_of status.NotYet
+Serves c l p ws s output = ⊥
 
 -- the text is that of a typed specification and of lines, of which this holds
 pub record Typed (holds_of : Spec → List With → Type 0) (text : List ℕ) : Type 0 where
@@ -70,12 +72,11 @@ pub record TellsFault (text output : List ℕ) : Type 0 where
   pub written : output ≡ type_line fault
 
 -- a status and an output tell what a command says of a text of a specification
-abbrev pub AnswersSpec : Command → List ℕ → Status → List ℕ → Type 0
-AnswersSpec c text (status.Syntax q) output = StopsAt text q output
-AnswersSpec c text (status.TooDeep q) output = StopsDeep text q output
-AnswersSpec c text status.Type_ output = TellsFault text output
-AnswersSpec c text status.Memory output = Unit {0}
-AnswersSpec c text s output = Typed (λ p ws. Serves c p ws s output) text
+abbrev pub AnswersSpec : Command → Line → List ℕ → Status → List ℕ → Type 0
+AnswersSpec c l text (status.Syntax q) output = StopsAt text q output
+AnswersSpec c l text (status.TooDeep q) output = StopsDeep text q output
+AnswersSpec c l text status.Type_ output = TellsFault text output
+AnswersSpec c l text s output = Typed (λ p ws. Serves c l p ws s output) text
 
 -- ---- of programs with values
 
@@ -100,39 +101,28 @@ abbrev pub AnswersExecution : List ℕ → Status → List ℕ → Type 0
 AnswersExecution text (status.NotProgram k) output = NoProgramAt text k output
 AnswersExecution text (status.Syntax q) output = ValuesStopAt text q output
 AnswersExecution text status.NotYet output = NotExecuted text output
-AnswersExecution text status.Memory output = Unit {0}
 AnswersExecution text s output = ⊥
 
 -- ---- by command
 
-abbrev pub Answers : Command → List ℕ → Status → List ℕ → Type 0
-Answers command.Exec text s output = AnswersExecution text s output
-Answers c text s output = AnswersSpec c text s output
+abbrev pub AnswersAs : Command → Line → List ℕ → Status → List ℕ → Type 0
+AnswersAs command.Exec l text s output = AnswersExecution text s output
+AnswersAs c l text s output = AnswersSpec c l text s output
 
--- the status of an answer, and what is written for it
-abbrev pub status_of : Result Output Status → Status
-status_of (Ok o) = o.status
-status_of (Err s) = s
+-- what a command line says of a text
+abbrev pub Answers : Line → List ℕ → Status → List ℕ → Type 0
+Answers l = AnswersAs l.command l
 
-abbrev pub written_of : Result Output Status → List ℕ
-written_of (Ok o) = o.text
-written_of (Err s) = line_of s
-
--- an output tells what the text is, and a status without one has a line of its own
-abbrev pub IsWell : Result Output Status → Type 0
-IsWell (Ok o) = TellsText o.status
-IsWell (Err s) = HasFixedLine s
-
--- an answer is well made, and its status and what is written for it tell this
-abbrev pub Answered : (Status → List ℕ → Type 0) → Result Output Status → Type 0
-Answered tells r = IsWell r × tells (status_of r) (written_of r)
+-- an answer tells this of its text, unless there was no memory
+abbrev pub Answered : (Status → List ℕ → Type 0) → Result Answer AllocError → Type 0
+Answered tells r = IfOk r (λ a. TellsText a.status × tells a.status (bytes_of a.text))
 
 -- ---- whatever the text, it is told
 
 -- A typed specification is told as the command serves it, one that is not typed by its broken rule, and what is no specification by a
 -- place, unless there was no memory, or a read or a write failed.
-pub record Told (c : Command) (text : List ℕ) (s : Status) : Type 0 where
-  pub typed : (p : Spec) (ws : List With) → SpecText text p ws → refusal_of p ≡ None → ((output : List ℕ) × Serves c p ws s output) ⊎ HasFailed s
+pub record Told (c : Command) (l : Line) (text : List ℕ) (s : Status) : Type 0 where
+  pub typed : (p : Spec) (ws : List With) → SpecText text p ws → refusal_of p ≡ None → ((output : List ℕ) × Serves c l p ws s output) ⊎ HasFailed s
   pub untyped : (w : Wrong) → HasFault text w → (s ≡ status.Type_) ⊎ HasFailed s
   pub none : IsNone text → TellsPlace s ⊎ HasFailed s
 
@@ -143,21 +133,25 @@ pub record ToldExecution (text : List ℕ) (s : Status) : Type 0 where
   pub no_values : (t : Program) → IsProgram text t → HasNoValues text → TellsPlace s ⊎ HasFailed s
   pub other : (t : Program) (ws : List With) → IsExecution text t ws → (s ≡ status.NotYet) ⊎ HasFailed s
 
-abbrev pub ToldBy : Command → List ℕ → Status → Type 0
-ToldBy command.Exec text s = ToldExecution text s
-ToldBy c text s = Told c text s
+abbrev pub ToldAs : Command → Line → List ℕ → Status → Type 0
+ToldAs command.Exec l text s = ToldExecution text s
+ToldAs c l text s = Told c l text s
+
+abbrev pub ToldBy : Line → List ℕ → Status → Type 0
+ToldBy l = ToldAs l.command l
 
 -- ---- the answers of status 0
 
 -- the output is the text of a sound program of the text's specification, its canonical text, and the lines of a result that it allows
+-- and that is found with so many turns for a loop
 abbrev pub IsSynthesis : List ℕ → List ℕ → Type 0
 IsSynthesis text output = Typed (λ p ws. Printed p output) text
 
 abbrev pub IsCanonical : List ℕ → List ℕ → Type 0
 IsCanonical text output = Typed (λ p ws. Canonical p output) text
 
-abbrev pub IsEvaluation : List ℕ → List ℕ → Type 0
-IsEvaluation text output = Typed (λ p ws. (us : List Value) × (inputs p.params ws ≡ Ok us) × GivesLines p us output) text
+abbrev pub IsEvaluation : ℕ → List ℕ → List ℕ → Type 0
+IsEvaluation turns text output = Typed (λ p ws. (us : List Value) × (inputs p.params ws ≡ Ok us) × GivesLines turns p us output) text
 
 -- ---- of what a source gave, and what went to a sink
 
@@ -168,3 +162,24 @@ Went holds old new before after = (text : List ℕ) × (output : List ℕ) × Co
 -- what the source gave, up to its end, meets a condition
 abbrev pub GaveText : (List ℕ → Type 0) → Option (List ℕ) → Option (List ℕ) → Type 0
 GaveText holds old new = (text : List ℕ) × Consumes old new text × IsAtEnd new × holds text
+
+-- ---- of what is due
+
+-- what is due to a command line: a status, and what is to be written for it, by what the source gave
+abbrev pub DueTo : Line → Option (List ℕ) → Option (List ℕ) → Status → List ℕ → Type 0
+DueTo l old new status.Usage output = ⊥
+DueTo l old new status.WriteFault output = ⊥
+DueTo l old new status.Memory output = ⊥
+DueTo l old new status.TooLong output = output ≡ line_of status.TooLong
+DueTo l old new status.ReadFault output = output ≡ line_of status.ReadFault
+DueTo l old new s output = GaveText (λ text. Answers l text s output) old new
+
+-- the same of words, which may be no command line
+abbrev pub Due : Option Line → Option (List ℕ) → Option (List ℕ) → Status → List ℕ → Type 0
+Due None old new s output = (s ≡ status.Usage) × (output ≡ line_of status.Usage)
+Due (Some l) old new s output = DueTo l old new s output
+
+-- the status of an answer; want of memory is one too
+abbrev pub status_of : Result Answer AllocError → Status
+status_of (Ok a) = a.status
+status_of (Err e) = status.Memory

@@ -1,7 +1,7 @@
 -- Why a text is told to be untyped.
 use Rattle.std.specs.Prelude.{◌≢◌, ℕ, List}
 use Rattle.nres_core.specs.Texts.{SpecText}
-use Rattle.nres_core.specs.Types.{refusal_of}
+use Rattle.nres_rules.specs.Types.{refusal_of}
 use Rattle.nres_core.specs.declared.tree.Spec.{Spec}
 use Rattle.nres_core.specs.declared.tree.With.{With}
 use Rattle.nres_types.specs.Wholes.{IsTold}

@@ -6,5 +6,6 @@ pub mod InputLines
 pub mod Outcome
 pub mod Statuses
 pub mod Synthesis
+pub mod Texts
 pub mod TypeLines
-pub mod Words
+pub mod CommandWords

@@ -1,8 +1,7 @@
 -- What a run of the program may end in, and what it then wrote.
-use Rattle.std.specs.Prelude.{◌≡◌, ℕ, ◌<◌, ◌⊎◌, List, Option}
+use Rattle.std.specs.Prelude.{◌≡◌, ℕ, ◌<◌, ◌⊎◌, List, take, Option}
 use Rattle.std.specs.Io.KnownBytes.{Appends, Keeps}
 use Rattle.sep_io.specs.Faults.{Gave}
-use Rattle.sepref_top.specs.Statuses.{line_of}
 use Rattle.sepref_top.specs.declared.status.Status.{Status}
 use Rattle.sepref_top.specs.declared.status.Status.TheVariants as status
 
@@ -24,10 +23,16 @@ pub record GaveTooMuch (result : Status) (n : ℕ) : Type 0 where
 abbrev pub TellsLength : Status → Option (List ℕ) → Option (List ℕ) → Type 0
 TellsLength result old new = (n : ℕ) × (Gave old new n × GaveTooMuch result n)
 
--- what went to the sink: the status's line, an output or a line that tells of the input, some front of them, or nothing
-abbrev pub Wrote : Status → Option (List ℕ) → Option (List ℕ) → Type 0
-Wrote status.Usage old new = Appends old new (line_of status.Usage)
-Wrote status.TooLong old new = Appends old new (line_of status.TooLong)
-Wrote status.ReadFault old new = Appends old new (line_of status.ReadFault)
-Wrote status.Memory old new = Keeps old new
-Wrote s old new = (text : List ℕ) × Appends old new text
+-- what was due of which only a front went out
+pub record Lost (due : Status → List ℕ → Type 0) (old new : Option (List ℕ)) : Type 0 where
+  pub status : Status
+  pub output : List ℕ
+  pub is_due : due status output
+  pub sent : ℕ
+  pub front : Appends old new (take sent output)
+
+-- what went to the sink: what was due for the status; or, where a write failed, a front of what was due; or, for want of memory, nothing
+abbrev pub Wrote : (Status → List ℕ → Type 0) → Status → Option (List ℕ) → Option (List ℕ) → Type 0
+Wrote due status.WriteFault old new = Lost due old new
+Wrote due status.Memory old new = Keeps old new
+Wrote due s old new = (output : List ℕ) × due s output × Appends old new output

@@ -45,13 +45,12 @@ line_of status.WriteFault = []
 line_of status.Memory = []
 line_of status.NotYet = codes "! not yet" ++ (10 ∷ [])
 
--- the line is the same whatever the input, or there is none
+-- the line is the same whatever the input
 abbrev pub HasFixedLine : Status → Type 0
 HasFixedLine status.Usage = Unit {0}
 HasFixedLine status.TooLong = Unit {0}
 HasFixedLine status.ReadFault = Unit {0}
 HasFixedLine status.NotYet = Unit {0}
-HasFixedLine status.Memory = Unit {0}
 HasFixedLine s = ⊥
 
 -- it tells what the input is

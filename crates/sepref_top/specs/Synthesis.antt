@@ -5,8 +5,8 @@ use Rattle.target_code.specs.Formed.{Formed}
 use Rattle.target_code.specs.declared.tree.Program.{Program}
 use Rattle.target_lines.specs.Programs.{program_text}
 use Rattle.nres_core.specs.FlatTree.{FlatWhole}
-use Rattle.nres_core.specs.Identify.{IsFlatOf}
-use Rattle.nres_core.specs.Typed.{is_free_name}
+use Rattle.nres_rules.specs.Identify.{IsFlatOf}
+use Rattle.nres_core.specs.Vocabulary.{is_free_name}
 use Rattle.nres_core.specs.declared.tree.Param.{Param}
 use Rattle.nres_core.specs.declared.tree.Spec.{Spec}
 use Rattle.nres_print.specs.Blocks.{spec_text}
@@ -14,11 +14,13 @@ use Rattle.sepref_top.specs.Statuses.{line_of}
 use Rattle.sepref_top.specs.declared.status.Status.{Status}
 use Rattle.sepref_top.specs.declared.status.Status.TheVariants as status
 use Rattle.smallest_form.specs.Smallest.{IsSmallest}
+use Rattle.soundness.specs.Behaviour.{of_spec}
+use Rattle.soundness.specs.Bound.{IsBoundedFor}
 use Rattle.soundness.specs.Samples.{array_get}
 use Rattle.soundness.specs.Shape.{Shape}
 use Rattle.soundness.specs.Sound.{Sound}
 
--- the output is the text of a formed program of the specification's shape, which is sound for it
+-- the output is the text of a formed program of the specification's shape, which is sound for it, and whose runs are bounded where the specification ends
 pub record Printed (spec : Spec) (output : List ℕ) : Type 0 where
   pub program : Program
   pub flat : FlatWhole
@@ -27,6 +29,7 @@ pub record Printed (spec : Spec) (output : List ℕ) : Type 0 where
   pub flat_is : IsFlatOf spec flat
   pub shape : Shape (array_get ∷ []) flat program
   pub sound : Sound spec program
+  pub bounded : IsBoundedFor (of_spec spec) program
   pub written : output ≡ program_text program
 
 -- the output is the canonical text of a specification that is served
@@ -43,13 +46,11 @@ pub record NotServed (spec : Spec) (output : List ℕ) : Type 0 where
 abbrev pub Translated : Spec → Status → List ℕ → Type 0
 Translated p status.Done output = Printed p output
 Translated p status.NotYet output = NotServed p output
-Translated p status.Memory output = Unit {0}
 Translated p s output = ⊥
 
 abbrev pub Checked : Spec → Status → List ℕ → Type 0
 Checked p status.Done output = Canonical p output
 Checked p status.NotYet output = NotServed p output
-Checked p status.Memory output = Unit {0}
 Checked p s output = ⊥
 
 -- the names of parameters are names, and not reserved

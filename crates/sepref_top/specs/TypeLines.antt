@@ -1,33 +1,12 @@
 -- The line that tells why a specification is not typed.
 use Rattle.std.specs.Prelude.{ℕ, List, [], ◌∷◌, ◌++◌, codes, decimal}
-use Rattle.target_code.specs.declared.tree.Rep.{Rep}
-use Rattle.target_code.specs.declared.tree.Rep.TheVariants as rep
-use Rattle.nres_core.specs.Types.{Wrong, Unbound, Mismatch, Arity, No_operation, Duplicate, Other_rep}
+use Rattle.target_code.specs.Texts.{rep_text}
+use Rattle.nres_rules.specs.Types.{Wrong, Unbound, Mismatch, Arity, No_operation, Duplicate, Other_rep}
+use Rattle.nres_core.specs.Vocabulary.{word_of}
 use Rattle.nres_core.specs.declared.place.Place.{Place}
 use Rattle.nres_core.specs.declared.ty.Ty.{Ty}
-use Rattle.nres_core.specs.declared.ty.Ty.TheVariants as ty
 use Rattle.nres_types.specs.declared.refusal.TypeRefusal.{TypeRefusal}
 use Rattle.nres_types.specs.declared.refusal.TypeRefusal.TheVariants as e
-
-abbrev pub type_word : Ty → List ℕ
-type_word ty.Nat = codes "nat"
-type_word ty.Bool = codes "bool"
-type_word ty.List = codes "list"
-type_word ty.Set = codes "set"
-type_word ty.Map = codes "map"
-type_word ty.Bag = codes "bag"
-
-abbrev pub rep_text : Rep → List ℕ
-rep_text rep.Word = codes "word"
-rep_text rep.Flag = codes "flag"
-rep_text rep.Array = codes "array"
-rep_text rep.Slice = codes "slice"
-rep_text rep.Vec = codes "vec"
-rep_text (rep.Bits u) = codes "bits " ++ decimal u
-rep_text rep.Hset = codes "hset"
-rep_text (rep.Amap u) = codes "amap " ++ decimal u
-rep_text rep.Hmap = codes "hmap"
-rep_text rep.Heap = codes "heap"
 
 -- the place, and words
 unfoldable pub begin : Place → List ℕ → List ℕ
@@ -38,13 +17,13 @@ unfoldable pub ended : List ℕ → List ℕ → List ℕ
 ended front last = front ++ (last ++ (10 ∷ []))
 
 unfoldable pub mismatch_line : Place → Ty → Ty → List ℕ
-mismatch_line p want found = ended (begin p (codes "mismatch ")) (type_word want ++ (codes " " ++ type_word found))
+mismatch_line p want found = ended (begin p (codes "mismatch ")) (word_of want ++ (codes " " ++ word_of found))
 
 unfoldable pub arity_line : Place → ℕ → ℕ → List ℕ
 arity_line p want found = ended (begin p (codes "arity ")) (decimal want ++ (codes " " ++ decimal found))
 
 unfoldable pub no_operation_line : Place → List ℕ → Ty → List ℕ
-no_operation_line p word found = ended (begin p (codes "no operation ")) (word ++ (codes " " ++ type_word found))
+no_operation_line p word found = ended (begin p (codes "no operation ")) (word ++ (codes " " ++ word_of found))
 
 -- the line of a broken rule
 abbrev pub type_line : Wrong → List ℕ

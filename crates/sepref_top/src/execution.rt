@@ -13,7 +13,7 @@ use target_code::Program;
 use target_text::{NotProgram, read_program};
 
 /// Why an input is not run.
-#[derive(Clone, Copy, PartialEq, Eq, Debug)]
+#[derive(Clone, Copy)]
 pub(crate) enum Unrun {
     /// The front is the text of no program: this line is refused.
     NotProgram(u64),

@@ -3,10 +3,9 @@
 ghost use Rattle.std.specs.Prelude.{◌≡◌};
 
 use nres_core::Place;
-use std::alloc::AllocError;
 
 /// How a run of the program ended. Each status but `Done`, `WriteFault` and `Memory` has written its line.
-#[derive(Clone, Copy, PartialEq, Eq, Debug)]
+#[derive(Clone, Copy)]
 pub enum Status {
     /// The output was written whole.
     Done,
@@ -32,7 +31,7 @@ pub enum Status {
     OutOfTurns(u64),
     /// A read failed.
     ReadFault,
-    /// A write failed; what went out is a prefix of what was to be written.
+    /// A write failed; what went out is a front of what was to be written.
     WriteFault,
     /// There was no memory. Nothing was written.
     Memory,
@@ -75,15 +74,5 @@ impl Status {
             Status::NotYet => b"! not yet\n",
             _ => b"",
         }
-    }
-}
-
-impl From<AllocError> for Status {
-    ghost use Rattle.sepref_top.specs.declared.status.Status.TheVariants.{Memory};
-
-    ghost from_gives = { λ _ s. s ≡ Memory };
-
-    fn from(_: AllocError) -> Self {
-        Status::Memory
     }
 }

@@ -1,53 +1,12 @@
 //! The line that tells why a specification is not typed.
 
-ghost use Rattle.std.specs.Prelude.{◌≡◌, ◌≢◌, ◌++◌, IfOk, OnOk, decimal};
+ghost use Rattle.std.specs.Prelude.{◌≡◌, ◌≢◌, ◌++◌, IfOk, OnOk};
 ghost use Rattle.sepref_top.specs.TypeLines as lines;
 
-use crate::output::push_number;
 use nres_core::{Place, Ty};
 use nres_types::TypeRefusal;
 use std::alloc::{AllocError, Global};
-use target_code::{Name, Rep};
-
-/// The word of a type.
-fn type_word(ty: Ty) -> &'static [u8]
-    ensures { result.now ≡ lines.type_word ty }
-{
-    match ty {
-        Ty::Nat => b"nat",
-        Ty::Bool => b"bool",
-        Ty::List => b"list",
-        Ty::Set => b"set",
-        Ty::Map => b"map",
-        Ty::Bag => b"bag",
-    }
-}
-
-/// A representation that has a bound.
-fn push_bounded(line: &mut Vec<u8>, word: &[u8], bound: u32) -> Result<(), AllocError>
-    ensures { OnOk result (line.new.items ≡ line.old.items ++ (word.now ++ decimal bound)) }
-{
-    line.extend_from_slice(word)?;
-    push_number(line, u64::from(bound))
-}
-
-/// A representation, as texts write it.
-fn push_rep(line: &mut Vec<u8>, rep: Rep) -> Result<(), AllocError>
-    ensures { OnOk result (line.new.items ≡ line.old.items ++ lines.rep_text rep) }
-{
-    match rep {
-        Rep::Word => line.extend_from_slice(b"word"),
-        Rep::Flag => line.extend_from_slice(b"flag"),
-        Rep::Array => line.extend_from_slice(b"array"),
-        Rep::Slice => line.extend_from_slice(b"slice"),
-        Rep::Vec => line.extend_from_slice(b"vec"),
-        Rep::Bits(bound) => push_bounded(line, b"bits ", bound),
-        Rep::Hset => line.extend_from_slice(b"hset"),
-        Rep::Amap(bound) => push_bounded(line, b"amap ", bound),
-        Rep::Hmap => line.extend_from_slice(b"hmap"),
-        Rep::Heap => line.extend_from_slice(b"heap"),
-    }
-}
+use target_code::{Name, push_number, push_rep};
 
 /// The beginning of the line: the place, and words.
 #[tactic(auto, unfolding(crate::specs::TypeLines::begin))]
@@ -81,9 +40,9 @@ fn mismatch(alloc: Global, place: Place, want: Ty, found: Ty) -> Result<Vec<u8>,
     ensures { IfOk result (λ line. line.items ≡ lines.mismatch_line place want found) }
 {
     let mut line = begin(alloc, place, b"mismatch ")?;
-    line.extend_from_slice(type_word(want))?;
+    line.extend_from_slice(want.word())?;
     line.extend_from_slice(b" ")?;
-    line.extend_from_slice(type_word(found))?;
+    line.extend_from_slice(found.word())?;
     line.push(b'\n')?;
     Ok(line)
 }
@@ -109,7 +68,7 @@ fn no_operation(alloc: Global, place: Place, word: &Name, found: Ty) -> Result<V
     let mut line = begin(alloc, place, b"no operation ")?;
     line.extend_from_slice(word.bytes())?;
     line.extend_from_slice(b" ")?;
-    line.extend_from_slice(type_word(found))?;
+    line.extend_from_slice(found.word())?;
     line.push(b'\n')?;
     Ok(line)
 }

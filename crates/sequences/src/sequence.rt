@@ -4,9 +4,6 @@ ghost use Rattle.std.specs.Prelude.{◌≡◌, ◌<◌, ◌≤◌, [], ◌∷◌
 ghost use Rattle.sequences.specs.Ends.{first_and_rest};
 ghost use Rattle.sequences.specs.Keys.{IsRising, IsAscending, below, place_of};
 
-#[cfg(test)]
-mod tests;
-
 use crate::Keyed;
 use std::alloc::{AllocError, Global};
 use std::marker::Model;

@@ -1,10 +1,10 @@
 -- The flat trees of the forms.
 use Rattle.std.proofs.Common.{◌≡◌, ℕ, List, [], ◌∷◌, refl, ap, ◌∙◌}
-use Rattle.nres_core.specs.Identify.{IsFlatOf}
+use Rattle.nres_rules.specs.Identify.{IsFlatOf}
 use Rattle.nres_core.specs.Mirror.{id_blk_of, blk_of}
 use Rattle.nres_core.specs.Tree as t
 use Rattle.nres_core.specs.Tree.{Exp, Blk, Word}
-use Rattle.nres_core.specs.Types.{sig_of, made_fits}
+use Rattle.nres_rules.specs.Types.{sig_of, made_fits}
 use Rattle.nres_core.specs.declared.identified.IdBlock.{IdBlock, roll-IdBlock}
 use Rattle.nres_core.specs.declared.identified.IdExpr.TheVariants as ide
 use Rattle.nres_core.specs.declared.op.Op.{Op}
@@ -15,7 +15,7 @@ use Rattle.nres_core.specs.declared.tree.Expr.TheVariants as expr
 use Rattle.nres_core.specs.declared.tree.Param.{Param}
 use Rattle.nres_core.specs.declared.ty.Ty.TheVariants as ty
 use Rattle.nres_core.proofs.Mirrored.{mirrored, id_mirrored}
-use Rattle.nres_core.proofs.OneBlock.{flat_with, flat_by, get_step, get_steps, get_block, id_get_steps, id_get_block, id_get_is}
+use Rattle.nres_rules.proofs.OneBlock.{flat_with, flat_by, get_step, get_steps, get_block, id_get_steps, id_get_block, id_get_is}
 use Rattle.smallest_form.proofs.Forms.{same}
 use Rattle.smallest_form.specs.Smallest as s
 use Rattle.smallest_form.specs.Smallest.{TakesAtMostAList, kept_array, var, a_number, ends_with}

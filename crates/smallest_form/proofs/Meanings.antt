@@ -12,9 +12,9 @@ use Rattle.nres_core.specs.declared.tree.Param.{Param}
 use Rattle.nres_core.specs.declared.tree.Spec.{Spec}
 use Rattle.nres_core.specs.declared.value.Value.{Value}
 use Rattle.nres_core.specs.declared.value.Value.TheVariants as v
-use Rattle.nres_core.proofs.OneBlock.{get_step}
+use Rattle.nres_rules.proofs.OneBlock.{get_step}
 use Rattle.nres_meaning.specs.Allowed.{Meaning, Allows, AllowedBy, CanFail, FailsBy, spec_runs}
-use Rattle.nres_meaning.specs.Words.{op_named}
+use Rattle.nres_meaning.specs.WordOperations.{op_named}
 use Rattle.smallest_form.proofs.Flats.{named, number_blk, number_is, get_words, element_is, after_is}
 use Rattle.smallest_form.proofs.Forms.{same}
 use Rattle.smallest_form.specs.Smallest.{kept_array, var, a_number, ends_with}

@@ -2,8 +2,8 @@
 use Rattle.std.proofs.Common.{◌≡◌, ℕ, ◌<◌, ◌^◌, true, List, [], ◌∷◌, refl, lit<}
 use Rattle.std.specs.Prelude.{Contains, IsTrue}
 use Rattle.nres_core.specs.FlatTree.{FlatWhole}
-use Rattle.nres_core.specs.Flatten.{taken}
-use Rattle.nres_core.specs.Identify.{IsFlatOf}
+use Rattle.nres_rules.specs.Flatten.{taken}
+use Rattle.nres_rules.specs.Identify.{IsFlatOf}
 use Rattle.nres_core.specs.Tree as tree
 use Rattle.nres_core.specs.declared.place.Place.{Place}
 use Rattle.nres_core.specs.declared.tree.Param.{Param}
@@ -12,17 +12,15 @@ use Rattle.nres_core.specs.declared.tree.Step.{Step}
 use Rattle.nres_core.specs.declared.tree.Expr.TheVariants as expr
 use Rattle.target_code.specs.declared.tree.InParam.{InParam}
 use Rattle.target_code.specs.declared.tree.Program.{Program}
-use Rattle.nres_core.proofs.OneBlock.{flat_with}
-use Rattle.soundness.proofs.SafeEnds.{safe_is_sound}
+use Rattle.nres_rules.proofs.OneBlock.{flat_with}
 use Rattle.soundness.specs.Nodes as nodes
 use Rattle.soundness.specs.Samples.{array_get}
 use Rattle.soundness.specs.Shape.{Shape}
-use Rattle.soundness.specs.Sound.{Sound}
 use Rattle.target_code.specs.Formed.{Formed}
 use Rattle.target_code.specs.Reserved.{is_input_name}
 use Rattle.smallest_form.proofs.Flats.{named, number_blk, number_flat, get_ops, element_flat, after_flat}
 use Rattle.smallest_form.proofs.Formed.{number_formed, list_number_formed, element_formed, after_formed}
-use Rattle.smallest_form.proofs.Safety.{number_safe, list_number_safe, element_safe, after_safe}
+use Rattle.smallest_form.proofs.Safety.{IsRight, number_right, list_number_right, element_right, after_right}
 use Rattle.smallest_form.proofs.Shapes.{number_shape, element_shape, after_shape}
 use Rattle.smallest_form.specs.Programs.{HasWords, program_of}
 use Rattle.smallest_form.specs.Smallest as s
@@ -61,11 +59,11 @@ module _ (name list bound : List ℕ) (m n o p q : Place) (i : ℕ) where
       let g : FlatWhole = flat_with name (kept_array list m n ∷ []) (a_number o) (get_ops list bound a b c d e p q i (tree.Num q k)) in
       (g, after_flat list bound a b c d e p q i name m n o k, after_shape g ins refl refl refl i k (nodes.operation refl nodes.no_bind))
 
-  element_sound : (t : Step) → Gets list bound i t → Sound (element_spec t) (program_of ins (form.Element i))
-  element_sound t (s.gets a b c d e) = safe_is_sound (element_spec t) (program_of ins (form.Element i)) (element_safe name list bound m n o a b c d e p q i)
+  element_is : (t : Step) → Gets list bound i t → IsRight (element_spec t) (program_of ins (form.Element i))
+  element_is t (s.gets a b c d e) = element_right name list bound m n o a b c d e p q i
 
-  after_sound : (k : ℕ) → k < 2 ^ 64 → (t : Step) → Gets list bound i t → Sound (after_spec k t) (program_of ins (form.NumberAfter i k))
-  after_sound k word t (s.gets a b c d e) = safe_is_sound (after_spec k t) (program_of ins (form.NumberAfter i k)) (after_safe name list bound m n o a b c d e p q i k word)
+  after_is : (k : ℕ) → k < 2 ^ 64 → (t : Step) → Gets list bound i t → IsRight (after_spec k t) (program_of ins (form.NumberAfter i k))
+  after_is k word t (s.gets a b c d e) = after_right name list bound m n o a b c d e p q i k word
 
 pub formed : (p : Spec) (f : Form) → HasForm p f → HasWords f → AreInputs p.params → Formed (program_of (taken p.params) f)
 formed p f (s.number name ps o q r k s.nothing) word names = number_formed k word
@@ -83,8 +81,8 @@ shaped p f (s.number name ps o q r k (s.a_list x m n)) =
 shaped p f (s.element name list bound m n o q r i t g) = element_shaped name list bound m n o q r i t g
 shaped p f (s.number_after name list bound m n o q r i k t g) = after_shaped name list bound m n o q r i k t g
 
-pub sound : (p : Spec) (f : Form) → HasForm p f → HasWords f → Sound p (program_of (taken p.params) f)
-sound p f (s.number name ps o q r k s.nothing) word = safe_is_sound p (program_of [] (form.Number k)) (number_safe name o q r k word)
-sound p f (s.number name ps o q r k (s.a_list x m n)) word = safe_is_sound p (program_of (taken (kept_array x m n ∷ [])) (form.Number k)) (list_number_safe name o q r k word x m n)
-sound p f (s.element name list bound m n o q r i t g) word = element_sound name list bound m n o q r i t g
-sound p f (s.number_after name list bound m n o q r i k t g) word = after_sound name list bound m n o q r i k word.1 t g
+pub right : (p : Spec) (f : Form) → HasForm p f → HasWords f → IsRight p (program_of (taken p.params) f)
+right p f (s.number name ps o q r k s.nothing) word = number_right name o q r k word
+right p f (s.number name ps o q r k (s.a_list x m n)) word = list_number_right name o q r k word x m n
+right p f (s.element name list bound m n o q r i t g) word = element_is name list bound m n o q r i t g
+right p f (s.number_after name list bound m n o q r i k t g) word = after_is name list bound m n o q r i k word.1 t g

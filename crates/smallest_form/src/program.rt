@@ -1,7 +1,7 @@
 //! The programs of the forms.
 
 ghost use Rattle.std.specs.Prelude.{◌≡◌, ◌⊎◌, IfOk, IsTrue, length, ◌≤◌};
-ghost use Rattle.nres_core.specs.Flatten.{taken};
+ghost use Rattle.nres_rules.specs.Flatten.{taken};
 ghost use Rattle.smallest_form.specs.Programs as programs;
 ghost use Rattle.smallest_form.specs.declared.form.Form.TheVariants as form;
 ghost use Rattle.triple_logic.specs.Sample.{array_get};

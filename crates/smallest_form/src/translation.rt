@@ -2,9 +2,11 @@
 
 ghost use Rattle.std.specs.Prelude.{◌≡◌, IfOk, IfSome, IsTrue, Ok, None, Contains, [], ◌∷◌};
 ghost use Rattle.nres_core.specs.FlatTree.{FlatWhole};
-ghost use Rattle.nres_core.specs.Identify.{IsFlatOf};
+ghost use Rattle.nres_rules.specs.Identify.{IsFlatOf};
 ghost use Rattle.nres_core.specs.declared.tree.Param.{Param};
 ghost use Rattle.smallest_form.specs.Smallest.{IsSmallest};
+ghost use Rattle.soundness.specs.Behaviour.{of_spec};
+ghost use Rattle.soundness.specs.Bound.{IsBoundedFor};
 ghost use Rattle.soundness.specs.Samples.{array_get};
 ghost use Rattle.soundness.specs.Shape.{Shape};
 ghost use Rattle.soundness.specs.Sound.{Sound};
@@ -26,6 +28,7 @@ pub fn translate(alloc: Global, spec: &Spec) -> Result<Option<Program>, AllocErr
     ensures formed { IfOk result (λ found. IfSome found (λ t. Formed t)) }
     ensures shape { IfOk result (λ found. IfSome found (λ t. (f : FlatWhole) × IsFlatOf spec.now f × Shape (array_get ∷ []) f t)) }
     ensures sound { IfOk result (λ found. IfSome found (λ t. Sound spec.now t)) }
+    ensures bounded { IfOk result (λ found. IfSome found (λ t. IsBoundedFor (of_spec spec.now) t)) }
 {
     match form_in(spec) {
         None => Ok(None),

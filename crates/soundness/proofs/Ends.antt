@@ -14,6 +14,7 @@ use Rattle.relations.specs.Values.{AllRepresent, union, IsUnion}
 use Rattle.relations.proofs.Small.{words_tested}
 use Rattle.nres_meaning.proofs.FirstTree.{first_seen}
 use Rattle.soundness.proofs.Starts.{one_piece}
+use Rattle.soundness.specs.Behaviour.{Behaviour}
 use Rattle.soundness.specs.Laws.{LiveBlocksAreClaimed, OthersAreFreed, FirstEndsWell, ExtraBlockIsNotGood}
 
 live_held : (c : Cell) → IsLive c → IsHeld (wholly (at_place c 0))
@@ -21,16 +22,16 @@ live_held Never h = h
 live_held (Live ws) h = tt
 live_held Freed h = h
 
-pub live_blocks_are_claimed : LiveBlocksAreClaimed
-live_blocks_are_claimed p T us ps t h good b alive = subst IsHeld (sym (good.all_live.all b 0)) (live_held (h.cells b) alive)
+pub live_blocks_are_claimed : (m : Behaviour) → LiveBlocksAreClaimed m
+live_blocks_are_claimed m T us ps t h good b alive = subst IsHeld (sym (good.all_live.all b 0)) (live_held (h.cells b) alive)
 
 dead_freed : (c : Cell) → wholly (at_place c 0) ≡ Nil → ¬ (c ≡ Never) → c ≡ Freed
 dead_freed Never e made = absurd (made refl)
 dead_freed (Live ws) e made = absurd (cc e)
 dead_freed Freed e made = refl
 
-pub others_are_freed : OthersAreFreed
-others_are_freed p T us ps t h good b e made = dead_freed (h.cells b) (sym (good.all_live.all b 0) ∙ e) made
+pub others_are_freed : (m : Behaviour) → OthersAreFreed m
+others_are_freed m T us ps t h good b e made = dead_freed (h.cells b) (sym (good.all_live.all b 0) ∙ e) made
 
 word_empty : (x : Value) (regs : List ℕ) (q : Piece) → Represents rep.Word x regs q → Exactly nothing q
 word_empty (v.Nat n) [] q r = absurd r.layout
@@ -54,8 +55,8 @@ unheld (x ∷ []) regs (q ∷ p ∷ ps) r held = absurd r.1
 unheld (x ∷ y ∷ xs) regs (q ∷ []) r held = absurd r.1
 unheld (x ∷ y ∷ xs) regs (q ∷ p ∷ ps) r held = absurd r.1
 
-pub extra_block_is_not_good : ExtraBlockIsNotGood
-extra_block_is_not_good p t good = unheld good.results good.regs good.outs good.related (live_blocks_are_claimed p _ _ _ t _ good 2 tt)
+pub extra_block_is_not_good : (m : Behaviour) → ExtraBlockIsNotGood m
+extra_block_is_not_good m t good = unheld good.results good.regs good.outs good.related (live_blocks_are_claimed m _ _ _ t _ good 2 tt)
 
 pub first_ends_well : FirstEndsWell
 first_ends_well = record {

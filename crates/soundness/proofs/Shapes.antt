@@ -11,8 +11,7 @@ use Rattle.target_meaning.specs.Samples.{reading, proc_of}
 use Rattle.soundness.specs.Laws.{FirstHasShape, ParHasShape, SequenceIsNoPar, NodesSeen}
 use Rattle.soundness.specs.Nodes as n
 use Rattle.soundness.specs.Nodes.{Nodes, SpecTree, CodeTree, library_op}
-use Rattle.nres_core.specs.declared.place.Place.{Place}
-use Rattle.soundness.specs.Samples.{array_get, get_code, side_proc, two_main, two_program, get_at, get_node, get_or_not, no_choice, one_load, one_by_one}
+use Rattle.soundness.specs.Samples.{array_get, get_code, side_proc, two_main, two_program, get_at, get_node, get_or_not, two_choices, gives_three, no_choice, one_load, one_by_one}
 use Rattle.soundness.specs.Shape as s
 use Rattle.soundness.specs.Shape.{any_side, Calls, IsNeeded}
 
@@ -33,13 +32,25 @@ empty_choice : CodeTree [] 0 no_choice (n.If_node n.End_node n.End_node n.End_no
 unfolding out-Instr Carrier.out
 empty_choice = n.choice (outs-If 0 (record { list = [] }) (record { list = [] })) n.no_instr n.no_instr n.no_instr
 
-of_get : (may : Place → Bool → Type 0) (ns : Nodes) → SpecTree may (get_at 1 0) ns → ns ≡ get_node
-of_get may ns (n.size e rest) = absurd (cc e)
-of_get may ns (n.operation e n.no_bind) = refl
+of_get : (may : List ℕ → Bool → Type 0) (to i : ℕ) (ns : Nodes) → SpecTree may (get_at to i) ns → ns ≡ get_node
+of_get may to i ns (n.size e rest) = absurd (cc e)
+of_get may to i ns (n.operation e n.no_bind) = refl
 
-taken : (ns : Nodes) → SpecTree (λ p left. true ≡ left) get_or_not ns → ns ≡ get_node
-taken ns (n.left m x n.no_bind) = ap (λ (z : Nodes). n.then z n.End_node) (of_get (λ p left. true ≡ left) _ x)
+taken : (ns : Nodes) → SpecTree (λ to left. true ≡ left) get_or_not ns → ns ≡ get_node
+taken ns (n.left m x n.no_bind) = ap (λ (z : Nodes). n.then z n.End_node) (of_get (λ to left. true ≡ left) 1 0 _ x)
 taken ns (n.right m x rest) = absurd (cc m)
+
+-- of two at one place the left side of the first and the right one of the second
+abbrev of_three : List ℕ → Bool → Type 0
+of_three to left = gives_three to ≡ left
+
+each : SpecTree of_three two_choices get_node
+each = n.left {ns = n.End_node} refl (n.operation refl n.no_bind) (n.right {ns = n.End_node} refl n.no_bind n.no_bind)
+
+each_alone : (ns : Nodes) → SpecTree of_three two_choices ns → ns ≡ get_node
+each_alone ns (n.right m x rest) = absurd (cc m)
+each_alone ns (n.left m x (n.left m' x' rest)) = absurd (cc m')
+each_alone ns (n.left m x (n.right m' n.no_bind n.no_bind)) = ap (λ (z : Nodes). n.then z n.End_node) (of_get of_three 1 0 _ x)
 
 no_load : (procs : List Proc) (own : ℕ) (ns : Nodes) (bs : List (List ℕ)) → ¬ CodeTree procs own one_load ns bs
 unfolding out-Instr Carrier.out
@@ -56,6 +67,8 @@ nodes_seen = record {
   left = n.left tt (n.operation refl n.no_bind) n.no_bind;
   right = n.right tt n.no_bind n.no_bind;
   taken = taken;
+  each = each;
+  each_alone = each_alone;
   load = no_load;
 }
 

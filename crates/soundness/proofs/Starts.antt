@@ -1,9 +1,11 @@
 -- Two starts.
 use Rattle.std.proofs.Common.{◌≡◌, ℕ, ◌≤◌, Bool, true, false, cond, List, [], ◌∷◌, ◌++◌, length, inr, refl, sym, ap, subst, ◌∙◌, arith, eqb, lit<}
-use Rattle.std.specs.Prelude.{◌-◌, replicate, slice_index, unwrap_or, Option, None}
-use Rattle.numbers.specs.Sets as sets
+use Rattle.std.specs.Prelude.{◌-◌, replicate, slice_index, unwrap_or, Option, Some, None, codes}
+use Rattle.containers.specs.Sets as sets
+use Rattle.target_code.specs.declared.tree.Proc.{Proc}
+use Rattle.target_code.specs.declared.tree.Program.{Program}
 use Rattle.target_code.specs.declared.tree.Rep.TheVariants as rep
-use Rattle.target_meaning.specs.Leaf.{Stack, Run, End}
+use Rattle.target_meaning.specs.Leaf.{Stack, Run, End, begin, find}
 use Rattle.target_meaning.specs.Machine.{Never, Live, no_blocks, with_blocks}
 use Rattle.nres_core.specs.declared.value.Value.TheVariants as v
 use Rattle.target_meaning.specs.Piece.{at_place}
@@ -32,31 +34,38 @@ one_piece cap b ws = record {
   all = λ c j. add-nil (whole_piece (block b ws) c j) ∙ same_place (eqb c b) ws j;
 }
 
--- the start of `first` on the list 7, 8 in a block of this name
+-- a start on the list 7, 8 in a block of this name, of a program with the inputs of `first`
+module _ (main : Proc) (others : List Proc) (is_main : find (main ∷ others) (codes "main") ≡ Some main) where
+  abbrev like_first : Program
+  like_first = record { ins = first_program.ins; outs = first_program.outs; procs = main ∷ others }
+
+  pub one_list_starts : (b : ℕ) → 1 ≤ b → b ≤ 16 → Start like_first (v.List (7 ∷ 8 ∷ []) ∷ []) (Run (begin main (b ∷ 0 ∷ 2 ∷ [])) []) (with_blocks (no_blocks 16) ((b, 7 ∷ 8 ∷ []) ∷ []))
+  one_list_starts b low high = record {
+    main = main;
+    regs = b ∷ 0 ∷ 2 ∷ [];
+    pieces = whole_piece (block b (7 ∷ 8 ∷ [])) ∷ [];
+    blocks = (b, 7 ∷ 8 ∷ []) ∷ [];
+    is_main = is_main;
+    beginning = refl;
+    inputs = (
+      record {
+        registers = word_first b (0 ∷ 2 ∷ []) (omega (arith, high)) (words_tested (0 ∷ 2 ∷ []) refl);
+        layout = record { piece = whole_exact (block b (7 ∷ 8 ∷ [])); words = words_tested (7 ∷ 8 ∷ []) refl; offset = refl; count = refl; small = lit< tt };
+      },
+      refl,
+    );
+    all_live = one_piece 16 b (7 ∷ 8 ∷ []);
+    made = refl;
+    named = (low, high, tt, tt);
+    capacity = lit< tt;
+    room = omega arith;
+  }
+
 list_starts : (b : ℕ) → 1 ≤ b → b ≤ 16 → Start first_program (v.List (7 ∷ 8 ∷ []) ∷ []) (start reading (b ∷ 0 ∷ 2 ∷ [])) (with_blocks (no_blocks 16) ((b, 7 ∷ 8 ∷ []) ∷ []))
-list_starts b low high = record {
-  main = _;
-  regs = b ∷ 0 ∷ 2 ∷ [];
-  pieces = whole_piece (block b (7 ∷ 8 ∷ [])) ∷ [];
-  blocks = (b, 7 ∷ 8 ∷ []) ∷ [];
-  is_main = refl;
-  beginning = refl;
-  inputs = (
-    record {
-      registers = word_first b (0 ∷ 2 ∷ []) (omega (arith, high)) (words_tested (0 ∷ 2 ∷ []) refl);
-      layout = record { piece = whole_exact (block b (7 ∷ 8 ∷ [])); words = words_tested (7 ∷ 8 ∷ []) refl; offset = refl; count = refl; small = lit< tt };
-    },
-    refl,
-  );
-  all_live = one_piece 16 b (7 ∷ 8 ∷ []);
-  made = refl;
-  named = (low, high, tt, tt);
-  capacity = lit< tt;
-  room = omega arith;
-}
+list_starts b low high = one_list_starts _ _ refl b low high
 
 list_begins : (b : ℕ) → 1 ≤ b → b ≤ 16 → Begin first_program (v.List (7 ∷ 8 ∷ []) ∷ []) 16 (b ∷ []) (start reading (b ∷ 0 ∷ 2 ∷ [])) (with_blocks (no_blocks 16) ((b, 7 ∷ 8 ∷ []) ∷ []))
-unfolding list_starts
+unfolding list_starts one_list_starts
 list_begins b low high = record {
   start = list_starts b low high;
   images = of_block (0 ∷ 2 ∷ []) (7 ∷ 8 ∷ []) ∷ [];

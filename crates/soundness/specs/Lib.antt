@@ -1,8 +1,10 @@
 pub mod Start
+pub mod Behaviour
 pub mod Good
 pub mod Nodes
 pub mod Shape
 pub mod Sound
+pub mod Bound
 pub mod SafeEnds
 pub mod Samples
 pub mod Laws

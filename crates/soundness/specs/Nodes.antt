@@ -3,7 +3,7 @@ use Rattle.std.specs.Prelude.{◌≡◌, ℕ, zero, suc, ◌<◌, Bool, true, fa
 use Rattle.std.specs.Fmt.{decimal}
 use Rattle.nres_core.specs.FlatTree as f
 use Rattle.nres_core.specs.FlatTree.{Binds, Ending}
-use Rattle.nres_core.specs.Words.{in_table}
+use Rattle.nres_core.specs.Vocabulary.{in_table}
 use Rattle.nres_core.specs.declared.flat.Arg.{Arg}
 use Rattle.nres_core.specs.declared.op.Op.{Op}
 use Rattle.nres_core.specs.declared.op.Op.TheVariants as o
@@ -66,8 +66,9 @@ is_size o.SizeMap = true
 is_size o.SizeBag = true
 is_size op = false
 
--- binds have these nodes; of an `either`, which stands at a place, it is those of a side that may be taken there, the left one where `true`
-pub data SpecTree (may : Place → Bool → Type 0) : Binds → Nodes → Type 0 where
+-- binds have these nodes; of an `either`, which is known by the variables that it binds, it is those of a side that may be taken there, the left one where
+-- `true`. No two have the same: each binds some, and no variable is bound twice
+pub data SpecTree (may : List ℕ → Bool → Type 0) : Binds → Nodes → Type 0 where
   no_bind : SpecTree may f.No_bind End_node
   calc : {p : Place} {to : ℕ} {w : Calc} {a b : Arg} {rest : Binds} {ns : Nodes} → SpecTree may rest ns → SpecTree may (f.Calc_to p to w a b rest) ns
   any : {p : Place} {to : ℕ} {a b : Arg} {rest : Binds} {ns : Nodes} → SpecTree may rest ns → SpecTree may (f.Any p to a b rest) ns
@@ -85,9 +86,9 @@ pub data SpecTree (may : Place → Bool → Type 0) : Binds → Nodes → Type 0
   split : {p : Place} {to : List ℕ} {list i j : ℕ} {at : Arg} {x y rest : Binds} {xe ye : Ending} {xs ys ns : Nodes}
       → SpecTree may x xs → SpecTree may y ys → SpecTree may rest ns → SpecTree may (f.Split p to list at i x xe j y ye rest) (Both_node xs ys ns)
   left : {p : Place} {to : List ℕ} {x y rest : Binds} {xe ye : Ending} {xs ns : Nodes}
-      → may p true → SpecTree may x xs → SpecTree may rest ns → SpecTree may (f.Either p to x xe y ye rest) (then xs ns)
+      → may to true → SpecTree may x xs → SpecTree may rest ns → SpecTree may (f.Either p to x xe y ye rest) (then xs ns)
   right : {p : Place} {to : List ℕ} {x y rest : Binds} {xe ye : Ending} {ys ns : Nodes}
-      → may p false → SpecTree may y ys → SpecTree may rest ns → SpecTree may (f.Either p to x xe y ye rest) (then ys ns)
+      → may to false → SpecTree may y ys → SpecTree may rest ns → SpecTree may (f.Either p to x xe y ye rest) (then ys ns)
   call : {p : Place} {to : List ℕ} {g : ℕ} {us : List Arg} {rest : Binds} {ns : Nodes}
       → SpecTree may rest ns → SpecTree may (f.Call p to g us rest) (Use_node (suc g) ns)
 

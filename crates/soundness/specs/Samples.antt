@@ -1,20 +1,20 @@
 -- Small specifications and programs, on which the definitions are seen.
-use Rattle.std.specs.Prelude.{ℕ, true, List, [], ◌∷◌, None, codes}
+use Rattle.std.specs.Prelude.{ℕ, ◌==◌, Bool, true, false, List, [], ◌∷◌, None, codes}
 use Rattle.nres_core.specs.FlatTree as f
 use Rattle.nres_core.specs.FlatTree.{Binds, Ending, FlatWhole}
-use Rattle.nres_core.specs.IdentifySamples as flat_samples
+use Rattle.nres_rules.specs.IdentifySamples as flat_samples
 use Rattle.nres_core.specs.Samples.{at}
 use Rattle.nres_core.specs.declared.flat.Arg.TheVariants as a
 use Rattle.nres_core.specs.declared.op.Op.TheVariants as o
 use Rattle.target_code.specs.declared.tree.Branch.{Branch}
 use Rattle.target_code.specs.declared.tree.Instr.{Instr}
-use Rattle.target_code.specs.declared.tree.Instr.TheVariants.{Const, Calc, Call, Load, If, Par}
-use Rattle.target_code.specs.declared.tree.Calc.TheVariants.{Add}
+use Rattle.target_code.specs.declared.tree.Instr.TheVariants.{Const, Call, Load, If, Par}
 use Rattle.target_code.specs.declared.tree.Proc.{Proc}
 use Rattle.target_code.specs.declared.tree.Program.{Program}
 use Rattle.target_code.specs.declared.tree.Rep.TheVariants as rep
 use Rattle.target_meaning.specs.Machine.{Heap, no_blocks, with_blocks}
 use Rattle.target_meaning.specs.Samples.{reading, proc_of}
+pub use Rattle.target_meaning.specs.Samples.{array_get}
 use Rattle.relations.specs.Samples.{gone_words}
 use Rattle.soundness.specs.Nodes.{Nodes, Op_node, End_node}
 
@@ -25,10 +25,6 @@ first_flat = flat_samples.first_flat
 -- its program: `main` calls `array_get` with a constant
 abbrev pub first_program : Program
 first_program = record { ins = first_flat.params; outs = first_flat.shown; procs = reading }
-
--- a library of one procedure
-abbrev pub array_get : Proc
-array_get = proc_of (codes "array_get") 4 6 (Calc 4 Add 1 3 ∷ Load 5 0 4 ∷ []) (5 ∷ [])
 
 -- both sides of a `par` get an element
 abbrev pub get_at : ℕ → ℕ → Binds
@@ -82,6 +78,17 @@ one_by_one =
 abbrev pub get_or_not : Binds
 get_or_not = f.Either (at 2 3) (3 ∷ []) (get_at 1 0) (ends_with 1) f.No_bind (ends_with 0) f.No_bind
 
+-- two of them at one place
+abbrev pub two_choices : Binds
+two_choices =
+    f.Either (at 2 3) (3 ∷ []) (get_at 1 0) (ends_with 1) f.No_bind (ends_with 0)
+    (f.Either (at 2 3) (4 ∷ []) (get_at 2 1) (ends_with 2) f.No_bind (ends_with 0) f.No_bind)
+
+-- the left side where the variable 3 is bound, the right one elsewhere
+abbrev pub gives_three : List ℕ → Bool
+gives_three [] = false
+gives_three (x ∷ xs) = x == 3
+
 -- the node of that operation
 abbrev pub get_node : Nodes
 get_node = Op_node o.Get None End_node
@@ -92,6 +99,13 @@ no_choice = If 0 (record { list = [] }) (record { list = [] }) ∷ []
 
 abbrev pub one_load : List Instr
 one_load = Load 0 0 0 ∷ []
+
+-- a program that calls itself for ever
+abbrev pub endless_main : Proc
+endless_main = proc_of (codes "main") 3 3 (Call [] (codes "main") (0 ∷ 1 ∷ 2 ∷ []) ∷ []) (0 ∷ [])
+
+abbrev pub endless_program : Program
+endless_program = record { ins = first_flat.params; outs = first_flat.shown; procs = endless_main ∷ [] }
 
 -- a program with a kept hash set, of which it gives the size
 abbrev pub size_program : Program

@@ -3,7 +3,6 @@ use Rattle.std.specs.Prelude.{◌≡◌, ℕ, ◌⊎◌, Bool, IsTrue, List, [],
 use Rattle.std.specs.Cmp.Lexicographic.{slice_cmp}
 use Rattle.std.specs.Ordering.{nat_cmp, is_lt}
 use Rattle.nres_core.specs.FlatTree.{Binds, FlatProc, FlatWhole}
-use Rattle.nres_core.specs.declared.place.Place.{Place}
 use Rattle.target_code.specs.declared.tree.Code.{Code}
 use Rattle.target_code.specs.declared.tree.Instr.{Instr, out-Instr}
 use Rattle.target_code.specs.declared.tree.Instr.TheOpen as I
@@ -21,7 +20,7 @@ bodies [] = []
 bodies (g ∷ gs) = g.body.binds ∷ bodies gs
 
 -- each block has the tree of its procedure's code, and the branches of all of them have these names in text order
-abbrev pub SameTrees : (Place → Bool → Type 0) → List Proc → ℕ → List Binds → List Proc → List (List ℕ) → Type 0
+abbrev pub SameTrees : (List ℕ → Bool → Type 0) → List Proc → ℕ → List Binds → List Proc → List (List ℕ) → Type 0
 SameTrees may procs own [] [] bs = bs ≡ []
 SameTrees may procs own (x ∷ xs) (q ∷ qs) bs =
     (ns : Nodes) × (us : List (List ℕ)) × (cs : List (List ℕ)) × SpecTree may x ns × CodeTree procs own q.code.list ns us × SameTrees may procs own xs qs cs × (bs ≡ us ++ cs)
@@ -49,7 +48,7 @@ AreRising (x ∷ []) = Unit {0}
 AreRising (x ∷ y ∷ ys) = IsTrue (is_lt (slice_cmp nat_cmp x y)) × AreRising (y ∷ ys)
 
 -- a program over a library has the shape of a flat specification, where each `either` has a side that may be taken
-pub record HasShape (may : Place → Bool → Type 0) (library : List Proc) (f : FlatWhole) (T : Program) : Type 0 where
+pub record HasShape (may : List ℕ → Bool → Type 0) (library : List Proc) (f : FlatWhole) (T : Program) : Type 0 where
   pub main : Proc
   pub own : List Proc
   pub branches : List Proc
@@ -71,13 +70,13 @@ pub record HasShape (may : Place → Bool → Type 0) (library : List Proc) (f :
   pub word_for_word : (q : Proc) → Contains called q → Contains library q
 
 -- any side of an `either`
-abbrev pub any_side : Place → Bool → Type 0
-any_side p left = Unit {0}
+abbrev pub any_side : List ℕ → Bool → Type 0
+any_side to left = Unit {0}
 
 -- a program over a library has the shape of a flat specification
 abbrev pub Shape : List Proc → FlatWhole → Program → Type 0
 Shape library f T = HasShape any_side library f T
 
--- the same, where the program has that side of each `either` which is taken at its place, the left one where `true`
-abbrev pub Made : (Place → Bool) → List Proc → FlatWhole → Program → Type 0
-Made side library f T = HasShape (λ p left. side p ≡ left) library f T
+-- the same, where the program has that side of each `either` which is taken where these variables are bound, the left one where `true`
+abbrev pub Made : (List ℕ → Bool) → List Proc → FlatWhole → Program → Type 0
+Made side library f T = HasShape (λ to left. side to ≡ left) library f T

@@ -1,6 +1,12 @@
 //! Laws of starts, ends and shapes. Their functions do nothing; what they ensure is the law.
 
+ghost use Rattle.soundness.specs.Behaviour.{Behaviour};
 ghost use Rattle.soundness.specs.Laws as laws;
+
+/// Something that tells what is asked of a program.
+pub trait Asks {
+    ghost asked: { Self → Behaviour };
+}
 
 /// The smallest program has the shape of the specification `first`.
 pub fn first_has_shape()
@@ -17,7 +23,12 @@ pub fn sequence_is_no_par()
     ensures { laws.SequenceIsNoPar }
 {}
 
-/// What the trees of choices are, and that a load has none.
+/// A program that has the sides that are taken has the shape.
+pub fn made_has_shape()
+    ensures { laws.MadeHasShape }
+{}
+
+/// What the trees of choices are, also of two that stand at one place, and that a load has none.
 pub fn nodes_seen()
     ensures { laws.NodesSeen }
 {}
@@ -33,13 +44,13 @@ pub fn gone_starts()
 {}
 
 /// In a good end each live block is held by a result or a kept input.
-pub fn live_blocks_are_claimed()
-    ensures { laws.LiveBlocksAreClaimed }
+pub fn live_blocks_are_claimed<A: Asks>()
+    ensures { (a : A) → laws.LiveBlocksAreClaimed (A.asked a) }
 {}
 
 /// In a good end every other block that was made is freed.
-pub fn others_are_freed()
-    ensures { laws.OthersAreFreed }
+pub fn others_are_freed<A: Asks>()
+    ensures { (a : A) → laws.OthersAreFreed (A.asked a) }
 {}
 
 /// There is a good end of `first` on the list 1, 2.
@@ -48,8 +59,8 @@ pub fn first_ends_well()
 {}
 
 /// An end with one more live block is not good.
-pub fn extra_block_is_not_good()
-    ensures { laws.ExtraBlockIsNotGood }
+pub fn extra_block_is_not_good<A: Asks>()
+    ensures { (a : A) → laws.ExtraBlockIsNotGood (A.asked a) }
 {}
 
 /// There is a begin of `first` on the list 7, 8, whose block is named 1.
@@ -74,7 +85,26 @@ pub fn gone_is_no_begin()
 
 /// A program that from every start is safe for every number of steps, with an end that is good by what the root holds, is
 /// sound; and it is so from every start where it is so from the beginning of `main`, on what the inputs hold.
-pub fn safe_is_sound()
-    ensures sound { laws.SafeIsSound }
-    ensures from_main { laws.SafeFromMain }
+pub fn safe_is_sound<A: Asks>()
+    ensures sound { (a : A) → laws.SafeIsSound (A.asked a) }
+    ensures from_main { (a : A) → laws.SafeFromMain (A.asked a) }
+{}
+
+/// A program that from every start has a bound on its steps, with an end that is good by what the root holds, has a bound on
+/// its runs from every start, whatever the schedule; a state from which it makes no step is good or full. It is enough to
+/// show it from the beginning of `main`, on what the inputs hold.
+pub fn bounds_hold<A: Asks>()
+    ensures bounded { (a : A) → laws.BoundedEnds (A.asked a) }
+    ensures from_main { (a : A) → laws.BoundedFromMain (A.asked a) }
+{}
+
+/// A program that calls itself for ever has no bound.
+pub fn endless_has_no_bound<A: Asks>()
+    ensures { (a : A) → laws.EndlessHasNoBound (A.asked a) }
+{}
+
+/// A program is sound, and its runs are bounded, for all that asks no more of it than that for which it is so.
+pub fn less_may_be_asked<A: Asks, B: Asks>()
+    ensures sound { (a : A) (b : B) → laws.SoundCarried (A.asked a) (B.asked b) }
+    ensures bounded { (a : A) (b : B) → laws.BoundsCarried (A.asked a) (B.asked b) }
 {}

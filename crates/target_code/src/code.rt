@@ -46,7 +46,8 @@ pub fn all_below(limit: u32, registers: &[u32]) -> bool
     registers.iter().all(|register| *register < limit)
 }
 
-fn hand_below(limit: u32, hand: Hand) -> bool
+/// Whether the registers of a hand are below the limit.
+pub fn hand_below(limit: u32, hand: Hand) -> bool
     ensures { result ≡ spec.hand_below limit hand }
 {
     let spans = match hand.span {
@@ -56,13 +57,15 @@ fn hand_below(limit: u32, hand: Hand) -> bool
     hand.block < limit && spans
 }
 
-fn hands_below(limit: u32, hands: &[Hand]) -> bool
+/// Whether the registers of all hands are below the limit.
+pub fn hands_below(limit: u32, hands: &[Hand]) -> bool
     ensures { result ≡ spec.hands_below limit hands.now }
 {
     hands.iter().all(|hand| hand_below(limit, *hand))
 }
 
-fn branch_below(limit: u32, branch: &Branch) -> bool
+/// Whether the registers of one side of a `par` are below the limit.
+pub fn branch_below(limit: u32, branch: &Branch) -> bool
     ensures { result ≡ spec.branch_below limit branch.now }
 {
     all_below(limit, branch.to.as_slice())

@@ -4,10 +4,11 @@
 mod code;
 mod formed;
 mod name;
-#[cfg(test)]
-mod tests;
+mod text;
 mod tree;
 
+pub use code::{all_below, branch_below, hand_below, hands_below};
 pub use formed::is_formed;
 pub use name::{Name, NameRefusal, RESERVED, is_reserved};
+pub use text::{push_indent, push_number, push_rep};
 pub use tree::{Branch, Calc, Code, Hand, Image, InParam, Instr, Proc, Program, Rep};

@@ -46,7 +46,7 @@ impl Rep {
 }
 
 /// An input of a program.
-#[derive(Debug, Drop)]
+#[derive(Drop)]
 pub struct InParam {
     /// The name under which a value is given.
     pub name: Name,
@@ -57,7 +57,7 @@ pub struct InParam {
 }
 
 /// A program: what it takes, what it gives, and its procedures, `main` first.
-#[derive(Debug, Drop)]
+#[derive(Drop)]
 pub struct Program {
     /// The inputs, in the order of their registers.
     pub ins: Items<InParam>,
@@ -68,7 +68,7 @@ pub struct Program {
 }
 
 /// A procedure.
-#[derive(Debug, Drop)]
+#[derive(Drop)]
 pub struct Proc {
     /// Its name.
     pub name: Name,
@@ -83,7 +83,7 @@ pub struct Proc {
 }
 
 /// What a calculation does with two words; a comparison gives 1 or 0.
-#[derive(Clone, Copy, PartialEq, Eq, Debug)]
+#[derive(Clone, Copy, PartialEq, Eq)]
 pub enum Calc {
     /// The sum, modulo 2^64.
     Add,
@@ -121,7 +121,7 @@ pub enum Calc {
 
 /// A list of instructions.
 #[cycle(code)]
-#[derive(Debug, Drop)]
+#[derive(Drop)]
 pub struct Code {
     /// The instructions, in order.
     pub list: Items<Instr>,
@@ -129,7 +129,7 @@ pub struct Code {
 
 /// An instruction. Fields that are numbers of registers count from 0.
 #[cycle(code)]
-#[derive(Debug, Drop)]
+#[derive(Drop)]
 pub enum Instr {
     /// Puts a number into a register.
     Const {
@@ -195,7 +195,7 @@ pub enum Instr {
 }
 
 /// One side of a `par`: the procedure that it calls, and what it is handed and lent.
-#[derive(Debug, Drop)]
+#[derive(Drop)]
 pub struct Branch {
     /// The registers for its results.
     pub to: Items<u32>,
@@ -210,7 +210,7 @@ pub struct Branch {
 }
 
 /// A block that a branch gets: all of it, or the words of a span, given by the registers of its offset and its count.
-#[derive(Clone, Copy, PartialEq, Eq, Debug)]
+#[derive(Clone, Copy, PartialEq, Eq)]
 pub struct Hand {
     /// The register of the block's name.
     pub block: u32,
@@ -219,7 +219,7 @@ pub struct Hand {
 }
 
 /// A value as it lies in registers and a block. The first register of a container is the block's name.
-#[derive(Debug, Drop)]
+#[derive(Drop)]
 pub struct Image {
     /// The words of the registers.
     pub regs: Items<u64>,

@@ -57,6 +57,12 @@ abbrev pub take_ret : Header → Phrase → List Frame → List Instr → Option
 take_ret h (phrase.Ret rs) [] is = Some (Ended h is rs)
 take_ret h p fs is = None
 
+-- no instruction of one line, and no results
+abbrev pub is_word : Phrase → Bool
+is_word (phrase.Plain i) = false
+is_word (phrase.Ret rs) = false
+is_word _ = true
+
 -- a line of code, or that of the results
 abbrev pub take_inside : Header → Line → Place → Option Place → Option Spot
 take_inside h l s (Some t) = Some (Inside h t)

@@ -13,7 +13,9 @@ use crate::state::Spot;
 use crate::told::Told;
 use indexmap::IndexSet;
 use std::alloc::{AllocError, Global};
-use target_code::{Branch, Hand, InParam, Instr, Name, NameRefusal, Proc, Rep, is_reserved};
+use target_code::{
+    InParam, Instr, Name, NameRefusal, Proc, Rep, all_below, branch_below, is_reserved,
+};
 use target_lines::line::Phrase;
 
 // ---- names
@@ -115,38 +117,6 @@ fn is_header(procs: &[Proc], name: &[u8], args: u32, regs: u32, told: &Told) -> 
 }
 
 // ---- registers
-
-/// Whether each register is below the limit.
-fn all_below(limit: u32, registers: &[u32]) -> bool
-    ensures { result ≡ tests.all_below limit registers.now }
-{
-    registers.iter().all(|register| *register < limit)
-}
-
-fn hand_below(limit: u32, hand: Hand) -> bool
-    ensures { result ≡ tests.hand_below limit hand }
-{
-    let spans = match hand.span {
-        None => true,
-        Some((offset, count)) => offset < limit && count < limit,
-    };
-    hand.block < limit && spans
-}
-
-fn hands_below(limit: u32, hands: &[Hand]) -> bool
-    ensures { result ≡ tests.hands_below limit hands.now }
-{
-    hands.iter().all(|hand| hand_below(limit, *hand))
-}
-
-fn branch_below(limit: u32, branch: &Branch) -> bool
-    ensures { result ≡ tests.branch_below limit branch.now }
-{
-    all_below(limit, branch.to.as_slice())
-        && all_below(limit, branch.args.as_slice())
-        && hands_below(limit, branch.hands.as_slice())
-        && hands_below(limit, branch.lends.as_slice())
-}
 
 /// Whether the registers of the line of an instruction are below the limit.
 fn line_below(limit: u32, instr: &Instr) -> bool

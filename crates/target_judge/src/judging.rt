@@ -19,7 +19,7 @@ use target_code::{Branch, Instr, Program, Rep};
 use target_lines::line::{Line, Phrase};
 
 /// What the lines so far say.
-#[derive(Debug, Drop)]
+#[derive(Drop)]
 pub struct Judged {
     /// What stands in them.
     pub state: State,
@@ -244,9 +244,16 @@ fn advance(
 ) -> Result<Option<Judged>, AllocError>
     ensures { IfOk result (λ next. states.if_there reads.judged_of next ≡ spec.advance told width (take_line line (states.state_of state))) }
 {
-    match state::take(alloc, state, line)? {
-        None => Ok(None),
-        Some(state) => Ok(Some(Judged { state, told, width })),
+    match state::take(alloc, state, line) {
+        Ok(Some(state)) => Ok(Some(Judged { state, told, width })),
+        Ok(None) => {
+            drop(told);
+            Ok(None)
+        }
+        Err(error) => {
+            drop(told);
+            Err(error)
+        }
     }
 }
 
@@ -312,10 +319,13 @@ pub fn is_whole(judged: &Judged) -> bool
 pub fn program(judged: Judged) -> Program
     ensures { result ≡ spec.program_of (states.state_of judged.state) }
 {
-    let Judged { state, .. } = judged;
-    Program {
-        ins: state.ins,
-        outs: state.outs,
-        procs: state.procs,
-    }
+    let Judged { state, told, .. } = judged;
+    let State {
+        ins,
+        outs,
+        procs,
+        spot,
+    } = state;
+    drop((told, spot));
+    Program { ins, outs, procs }
 }

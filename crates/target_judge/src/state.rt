@@ -1,9 +1,10 @@
 //! What stands in the lines of a text so far. A line is taken only where it may stand.
 
-ghost use Rattle.std.specs.Prelude.{◌≡◌, ◌++◌, ◌∷◌, [], IfOk, Some, nat_eq};
+ghost use Rattle.std.specs.Prelude.{◌≡◌, ◌++◌, ◌∷◌, [], IfOk, Some, nat_eq, true};
 ghost use Rattle.target_code.specs.declared.tree.Instr.{out-Instr};
 ghost use Rattle.target_lines.specs.declared.line.Phrase.TheVariants as phrase;
 ghost use Rattle.target_lines.specs.Programs as programs;
+ghost use Rattle.target_lines.specs.Programs.{line};
 ghost use Rattle.target_judge.specs.Shape as shape;
 ghost use Rattle.target_judge.specs.Taking as taking;
 ghost use Rattle.target_judge.specs.States as states;
@@ -14,7 +15,7 @@ use target_code::{Code, InParam, Instr, Name, Proc, Rep};
 use target_lines::line::{Line, Phrase};
 
 /// An open block, with what stands before its instruction.
-#[derive(Debug, Drop)]
+#[derive(Drop)]
 pub enum Frame {
     /// The first block of an `if`.
     Yes {
@@ -40,14 +41,14 @@ pub enum Frame {
 }
 
 /// The open blocks, the innermost last, and the instructions of the innermost.
-#[derive(Debug, Drop)]
+#[derive(Drop)]
 pub struct Place {
     pub frames: Items<Frame>,
     pub items: Items<Instr>,
 }
 
 /// The first line of a procedure.
-#[derive(Debug, Drop)]
+#[derive(Drop)]
 pub struct Header {
     pub name: Name,
     pub args: u32,
@@ -55,7 +56,7 @@ pub struct Header {
 }
 
 /// Where the lines so far end.
-#[derive(Debug, Drop)]
+#[derive(Drop)]
 pub enum Spot {
     /// Between procedures.
     Between,
@@ -66,7 +67,7 @@ pub enum Spot {
 }
 
 /// What stands in the lines so far.
-#[derive(Debug, Drop)]
+#[derive(Drop)]
 pub struct State {
     pub ins: Items<InParam>,
     pub outs: Items<Rep>,
@@ -75,7 +76,7 @@ pub struct State {
 }
 
 /// Inputs, results and procedures.
-#[derive(Debug, Drop)]
+#[derive(Drop)]
 struct Heads {
     ins: Items<InParam>,
     outs: Items<Rep>,
@@ -108,11 +109,16 @@ fn is_flat(instr: &Instr) -> bool
 fn begin(alloc: Global, mut frames: Items<Frame>, frame: Frame) -> Result<Place, AllocError>
     ensures { IfOk result (λ p. states.place_of p ≡ shape.place (states.frame_of frame ∷ states.frames_of frames) []) }
 {
-    frames.push(frame)?;
-    Ok(Place {
-        frames,
-        items: Items::new(alloc),
-    })
+    match frames.push(frame) {
+        Ok(()) => Ok(Place {
+            frames,
+            items: Items::new(alloc),
+        }),
+        Err(error) => {
+            drop(frames);
+            Err(error)
+        }
+    }
 }
 
 /// Begins the first block of an instruction, unless 100 are open.
@@ -122,6 +128,7 @@ fn open(alloc: Global, frames: Items<Frame>, frame: Frame) -> Result<Option<Plac
     if frames.len() < 100 {
         return Ok(Some(begin(alloc, frames, frame)?));
     }
+    drop((frames, frame));
     Ok(None)
 }
 
@@ -133,32 +140,35 @@ fn put(
 ) -> Result<Option<Place>, AllocError>
     ensures { IfOk result (λ p. states.if_there states.place_of p ≡ Some (shape.place (states.frames_of frames) (items ++ instr ∷ []))) }
 {
-    items.push(instr)?;
-    Ok(Some(Place { frames, items }))
+    match items.push(instr) {
+        Ok(()) => Ok(Some(Place { frames, items })),
+        Err(error) => {
+            drop((frames, items));
+            Err(error)
+        }
+    }
 }
 
-/// A line at the level of the innermost block's instructions.
-fn go(alloc: Global, place: Place, phrase: Phrase) -> Result<Option<Place>, AllocError>
-    ensures { IfOk result (λ p. states.if_there states.place_of p ≡ shape.goes phrase (states.place_of place)) }
+/// A word at the level of the innermost block's instructions.
+fn go(alloc: Global, place: Place, phrase: &Phrase) -> Result<Option<Place>, AllocError>
+    requires { taking.is_word phrase.now ≡ true }
+    ensures { IfOk result (λ p. states.if_there states.place_of p ≡ shape.goes phrase.now (states.place_of place)) }
 {
     let Place { frames, items } = place;
     match phrase {
-        Phrase::Plain(instr) => {
-            if is_flat(&instr) {
-                return put(frames, items, instr);
-            }
-            Ok(None)
-        }
         Phrase::If(test) => open(
             alloc,
             frames,
             Frame::Yes {
-                test,
+                test: *test,
                 before: items,
             },
         ),
         Phrase::While => open(alloc, frames, Frame::Cond { before: items }),
-        _ => Ok(None),
+        _ => {
+            drop((frames, items));
+            Ok(None)
+        }
     }
 }
 
@@ -168,9 +178,9 @@ fn turn_at(
     frames: Items<Frame>,
     frame: Frame,
     items: Items<Instr>,
-    phrase: Phrase,
+    phrase: &Phrase,
 ) -> Result<Option<Place>, AllocError>
-    ensures { IfOk result (λ p. states.if_there states.place_of p ≡ shape.turns phrase items (states.frame_of frame ∷ states.frames_of frames)) }
+    ensures { IfOk result (λ p. states.if_there states.place_of p ≡ shape.turns phrase.now items (states.frame_of frame ∷ states.frames_of frames)) }
 {
     match frame {
         Frame::Yes { test, before } => match phrase {
@@ -182,7 +192,10 @@ fn turn_at(
                 };
                 Ok(Some(begin(alloc, frames, next)?))
             }
-            _ => Ok(None),
+            _ => {
+                drop((frames, items, before));
+                Ok(None)
+            }
         },
         Frame::No {
             test,
@@ -194,18 +207,24 @@ fn turn_at(
                 let no = Code { list: items };
                 put(frames, before, Instr::If { test, yes, no })
             }
-            _ => Ok(None),
+            _ => {
+                drop((frames, items, (chosen, before)));
+                Ok(None)
+            }
         },
         Frame::Cond { before } => match phrase {
             Phrase::Do(test) => {
                 let next = Frame::Body {
                     cond: items,
-                    test,
+                    test: *test,
                     before,
                 };
                 Ok(Some(begin(alloc, frames, next)?))
             }
-            _ => Ok(None),
+            _ => {
+                drop((frames, items, before));
+                Ok(None)
+            }
         },
         Frame::Body { cond, test, before } => match phrase {
             Phrase::End => {
@@ -213,36 +232,63 @@ fn turn_at(
                 let body = Code { list: items };
                 put(frames, before, Instr::While { cond, test, body })
             }
-            _ => Ok(None),
+            _ => {
+                drop((frames, items, (cond, before)));
+                Ok(None)
+            }
         },
     }
 }
 
 /// A line at the level of the instruction whose block is the innermost.
-fn turn(alloc: Global, place: Place, phrase: Phrase) -> Result<Option<Place>, AllocError>
-    ensures { IfOk result (λ p. states.if_there states.place_of p ≡ shape.turns phrase place.items (states.frames_of place.frames)) }
+fn turn(alloc: Global, place: Place, phrase: &Phrase) -> Result<Option<Place>, AllocError>
+    ensures { IfOk result (λ p. states.if_there states.place_of p ≡ shape.turns phrase.now place.items (states.frames_of place.frames)) }
 {
     let Place { mut frames, items } = place;
     match frames.pop() {
         Some(frame) => turn_at(alloc, frames, frame, items, phrase),
-        None => Ok(None),
+        None => {
+            drop((frames, items));
+            Ok(None)
+        }
     }
 }
 
-/// A line of code.
+/// A line with a word.
 #[tactic(auto, unfolding(crate::specs::Shape::takes))]
-fn take_code(alloc: Global, place: Place, line: Line) -> Result<Option<Place>, AllocError>
-    ensures { IfOk result (λ p. states.if_there states.place_of p ≡ shape.takes line (states.place_of place)) }
+fn take_word(
+    alloc: Global,
+    place: Place,
+    level: u64,
+    phrase: &Phrase,
+) -> Result<Option<Place>, AllocError>
+    requires { taking.is_word phrase.now ≡ true }
+    ensures { IfOk result (λ p. states.if_there states.place_of p ≡ shape.takes (line level phrase.now) (states.place_of place)) }
 {
-    let Line { level, phrase } = line;
     let opened = place.frames.len() as u64;
     if level == opened {
-        return turn(alloc, place, phrase);
+        turn(alloc, place, phrase)
+    } else if level > opened && level - opened == 1 {
+        go(alloc, place, phrase)
+    } else {
+        drop(place);
+        Ok(None)
     }
-    if level > opened && level - opened == 1 {
-        return go(alloc, place, phrase);
+}
+
+/// A line with an instruction.
+#[tactic(auto, unfolding(crate::specs::Shape::takes))]
+fn take_instr(place: Place, level: u64, instr: Instr) -> Result<Option<Place>, AllocError>
+    ensures { IfOk result (λ p. states.if_there states.place_of p ≡ shape.takes (line level (phrase.Plain instr)) (states.place_of place)) }
+{
+    let opened = place.frames.len() as u64;
+    if level > opened && level - opened == 1 && is_flat(&instr) {
+        let Place { frames, items } = place;
+        put(frames, items, instr)
+    } else {
+        drop((place, instr));
+        Ok(None)
     }
-    Ok(None)
 }
 
 // ---- programs
@@ -254,11 +300,66 @@ fn take_ret(header: Header, place: Place, level: u64, list: Items<u32>) -> Optio
 {
     let Place { mut frames, items } = place;
     if level != 1 {
+        drop((header, frames, (items, list)));
         return None;
     }
     match frames.pop() {
-        None => Some(Spot::Ended(header, items, list)),
-        Some(_) => None,
+        None => {
+            drop(frames);
+            Some(Spot::Ended(header, items, list))
+        }
+        Some(frame) => {
+            drop((frame, header, (frames, items, list)));
+            None
+        }
+    }
+}
+
+/// A line inside a procedure, with an instruction.
+fn take_plain(
+    header: Header,
+    place: Place,
+    level: u64,
+    instr: Instr,
+) -> Result<Option<Spot>, AllocError>
+    ensures { let l = line level (phrase.Plain instr) in
+        IfOk result (λ s. states.if_there states.spot_of s ≡ taking.take_inside (states.header_of header) l (states.place_of place) (shape.takes l (states.place_of place))) }
+{
+    match take_instr(place, level, instr) {
+        Ok(Some(place)) => Ok(Some(Spot::Inside(header, place))),
+        Ok(None) => {
+            drop(header);
+            Ok(None)
+        }
+        Err(error) => {
+            drop(header);
+            Err(error)
+        }
+    }
+}
+
+/// A line inside a procedure, with a word.
+fn take_block(
+    alloc: Global,
+    header: Header,
+    place: Place,
+    level: u64,
+    phrase: &Phrase,
+) -> Result<Option<Spot>, AllocError>
+    requires { taking.is_word phrase.now ≡ true }
+    ensures { let l = line level phrase.now in
+        IfOk result (λ s. states.if_there states.spot_of s ≡ taking.take_inside (states.header_of header) l (states.place_of place) (shape.takes l (states.place_of place))) }
+{
+    match take_word(alloc, place, level, phrase) {
+        Ok(Some(place)) => Ok(Some(Spot::Inside(header, place))),
+        Ok(None) => {
+            drop(header);
+            Ok(None)
+        }
+        Err(error) => {
+            drop(header);
+            Err(error)
+        }
     }
 }
 
@@ -275,41 +376,128 @@ fn take_inside(
     let Line { level, phrase } = line;
     match phrase {
         Phrase::Ret(list) => Ok(take_ret(header, place, level, list)),
-        phrase => match take_code(alloc, place, Line { level, phrase })? {
-            Some(place) => Ok(Some(Spot::Inside(header, place))),
-            None => Ok(None),
-        },
+        Phrase::Plain(instr) => take_plain(header, place, level, instr),
+        word => {
+            let spot = take_block(alloc, header, place, level, &word);
+            drop(word);
+            spot
+        }
     }
 }
 
-/// A line between procedures.
-fn take_between(alloc: Global, heads: Heads, phrase: Phrase) -> Result<Option<State>, AllocError>
-    ensures { IfOk result (λ s. states.if_there states.state_of s ≡ taking.take_between phrase heads.ins heads.outs heads.procs) }
+/// An input, which stands before results and procedures.
+fn take_in(heads: Heads, param: InParam) -> Result<Option<State>, AllocError>
+    ensures { IfOk result (λ s. states.if_there states.state_of s ≡ taking.take_between (phrase.In param) heads.ins heads.outs heads.procs) }
 {
-    let mut heads = heads;
+    let Heads {
+        mut ins,
+        outs,
+        procs,
+    } = heads;
+    if !outs.is_empty() || !procs.is_empty() {
+        drop((param, (ins, outs, procs)));
+        return Ok(None);
+    }
+    match ins.push(param) {
+        Ok(()) => Ok(Some(at(Heads { ins, outs, procs }, Spot::Between))),
+        Err(error) => {
+            drop((ins, outs, procs));
+            Err(error)
+        }
+    }
+}
+
+/// A result, which stands before procedures.
+fn take_out(heads: Heads, rep: Rep) -> Result<Option<State>, AllocError>
+    ensures { IfOk result (λ s. states.if_there states.state_of s ≡ taking.take_between (phrase.Out rep) heads.ins heads.outs heads.procs) }
+{
+    let Heads {
+        ins,
+        mut outs,
+        procs,
+    } = heads;
+    if !procs.is_empty() {
+        drop((ins, outs, procs));
+        return Ok(None);
+    }
+    match outs.push(rep) {
+        Ok(()) => Ok(Some(at(Heads { ins, outs, procs }, Spot::Between))),
+        Err(error) => {
+            drop((ins, outs, procs));
+            Err(error)
+        }
+    }
+}
+
+/// The first line of a procedure.
+fn take_proc(alloc: Global, heads: Heads, header: Header) -> State
+    ensures { states.state_of result ≡ taking.state heads.ins heads.outs heads.procs (taking.Inside (states.header_of header) (shape.place [] [])) }
+{
+    let place = Place {
+        frames: Items::new(alloc),
+        items: Items::new(alloc),
+    };
+    at(heads, Spot::Inside(header, place))
+}
+
+/// A line between procedures.
+fn take_between(alloc: Global, heads: Heads, line: Line) -> Result<Option<State>, AllocError>
+    ensures { IfOk result (λ s. states.if_there states.state_of s ≡
+        shape.and_then (shape.guard (nat_eq line.level 0) line.phrase) (λ p. taking.take_between p heads.ins heads.outs heads.procs)) }
+{
+    let Line { level, phrase } = line;
+    if level != 0 {
+        drop((heads, phrase));
+        return Ok(None);
+    }
     match phrase {
-        Phrase::In(param) => {
-            if !heads.outs.is_empty() || !heads.procs.is_empty() {
-                return Ok(None);
-            }
-            heads.ins.push(param)?;
-            Ok(Some(at(heads, Spot::Between)))
-        }
-        Phrase::Out(rep) => {
-            if !heads.procs.is_empty() {
-                return Ok(None);
-            }
-            heads.outs.push(rep)?;
-            Ok(Some(at(heads, Spot::Between)))
-        }
+        Phrase::In(param) => take_in(heads, param),
+        Phrase::Out(rep) => take_out(heads, rep),
         Phrase::Proc { name, args, regs } => {
-            let place = Place {
-                frames: Items::new(alloc),
-                items: Items::new(alloc),
-            };
-            Ok(Some(at(heads, Spot::Inside(Header { name, args, regs }, place))))
+            Ok(Some(take_proc(alloc, heads, Header { name, args, regs })))
         }
-        _ => Ok(None),
+        other => {
+            drop((heads, other));
+            Ok(None)
+        }
+    }
+}
+
+/// A procedure that ends.
+fn ended(header: Header, items: Items<Instr>, ret: Items<u32>) -> Proc
+    ensures { result ≡ taking.proc_of (states.header_of header) items ret }
+{
+    let Header { name, args, regs } = header;
+    Proc {
+        name,
+        args,
+        regs,
+        code: Code { list: items },
+        ret,
+    }
+}
+
+/// The end of a procedure, whose results have come.
+fn end(
+    header: Header,
+    items: Items<Instr>,
+    ret: Items<u32>,
+    heads: Heads,
+) -> Result<State, AllocError>
+    ensures { IfOk result (λ s. states.state_of s ≡
+        taking.state heads.ins heads.outs (heads.procs ++ taking.proc_of (states.header_of header) items ret ∷ []) taking.Between) }
+{
+    let Heads {
+        ins,
+        outs,
+        mut procs,
+    } = heads;
+    match procs.push(ended(header, items, ret)) {
+        Ok(()) => Ok(at(Heads { ins, outs, procs }, Spot::Between)),
+        Err(error) => {
+            drop((ins, outs, procs));
+            Err(error)
+        }
     }
 }
 
@@ -319,32 +507,22 @@ fn take_ended(
     items: Items<Instr>,
     ret: Items<u32>,
     heads: Heads,
-    phrase: Phrase,
+    line: &Line,
 ) -> Result<Option<State>, AllocError>
-    ensures { IfOk result (λ s. states.if_there states.state_of s ≡ taking.take_end phrase (states.header_of header) items ret heads.ins heads.outs heads.procs) }
+    ensures { IfOk result (λ s. states.if_there states.state_of s ≡
+        shape.and_then (shape.guard (nat_eq line.now.level 0) line.now.phrase) (λ p. taking.take_end p (states.header_of header) items ret heads.ins heads.outs heads.procs)) }
 {
-    let Heads {
-        ins,
-        outs,
-        mut procs,
-    } = heads;
-    if !matches!(phrase, Phrase::End) {
+    if line.level != 0 {
+        drop(((header, items), (ret, heads)));
         return Ok(None);
     }
-    let Header { name, args, regs } = header;
-    procs.push(Proc {
-        name,
-        args,
-        regs,
-        code: Code { list: items },
-        ret,
-    })?;
-    Ok(Some(State {
-        ins,
-        outs,
-        procs,
-        spot: Spot::Between,
-    }))
+    match &line.phrase {
+        Phrase::End => Ok(Some(end(header, items, ret, heads)?)),
+        _ => {
+            drop(((header, items), (ret, heads)));
+            Ok(None)
+        }
+    }
 }
 
 /// A line more, where it may stand.
@@ -360,21 +538,22 @@ pub fn take(alloc: Global, state: State, line: Line) -> Result<Option<State>, Al
     } = state;
     let heads = Heads { ins, outs, procs };
     match spot {
-        Spot::Between => {
-            if line.level == 0 {
-                return take_between(alloc, heads, line.phrase);
+        Spot::Between => take_between(alloc, heads, line),
+        Spot::Inside(header, place) => match take_inside(alloc, header, place, line) {
+            Ok(Some(spot)) => Ok(Some(at(heads, spot))),
+            Ok(None) => {
+                drop(heads);
+                Ok(None)
             }
-            Ok(None)
-        }
-        Spot::Inside(header, place) => match take_inside(alloc, header, place, line)? {
-            Some(spot) => Ok(Some(at(heads, spot))),
-            None => Ok(None),
+            Err(error) => {
+                drop(heads);
+                Err(error)
+            }
         },
         Spot::Ended(header, items, ret) => {
-            if line.level == 0 {
-                return take_ended(header, items, ret, heads, line.phrase);
-            }
-            Ok(None)
+            let state = take_ended(header, items, ret, heads, &line);
+            drop(line);
+            state
         }
     }
 }

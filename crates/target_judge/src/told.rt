@@ -12,7 +12,7 @@ use std::alloc::{AllocError, Global};
 use std::marker::Model;
 
 /// Numbers of names, in the order in which they were told.
-#[derive(Debug, Drop)]
+#[derive(Drop)]
 pub struct Numbers {
     entries: IndexMap<Vec<u8>, u64>,
 }
@@ -74,7 +74,7 @@ fn keys_in(entries: &IndexMap<Vec<u8>, u64>, others: &Numbers) -> bool
 }
 
 /// What is told of procedures and inputs.
-#[derive(Debug, Drop)]
+#[derive(Drop)]
 pub struct Told {
     /// How many arguments a procedure takes.
     pub args: Numbers,

@@ -18,7 +18,8 @@ use Rattle.target_code.specs.Names.{is_name}
 use Rattle.target_lines.specs.declared.line.Line.{Line}
 use Rattle.target_lines.specs.declared.line.Phrase.{Phrase}
 use Rattle.target_lines.specs.declared.line.Phrase.TheVariants as phrase
-use Rattle.target_lines.specs.Words.{calc_text}
+use Rattle.target_lines.specs.LineWords.{calc_text}
+use Rattle.target_code.specs.Texts.{rep_text, indent}
 use Rattle.target_lines.specs.Texts as t
 use Rattle.target_lines.specs.Texts.{is_inside, IsOneLine}
 use Rattle.target_lines.specs.Reading.{is_letter}
@@ -100,7 +101,7 @@ branch_inside lends b h =
     (joined (t.use_text b.proc b.args) (codes " hand [" ++ hands) (use_inside b.proc b.args h.proc h.args)
     (joined (t.hands_text b.hands) (codes "]" ++ t.lends_text lends b.lends) (hands_inside b.hands h.hands) (lends_inside lends b.lends h.lent)))
 
-rep_inside : (x : Rep) → RepFits x → IsOneLine (t.rep_text x)
+rep_inside : (x : Rep) → RepFits x → IsOneLine (rep_text x)
 rep_inside rep.Word h = refl
 rep_inside rep.Flag h = refl
 rep_inside rep.Array h = refl
@@ -159,7 +160,7 @@ plain_inside lends (Open.Call to name args) h = joined (t.targets_text to) (code
 plain_inside lends (Open.Par l r) h = joined (t.branch_text lends l) (codes " | " ++ t.branch_text lends r) (branch_inside lends l h.0) (branch_inside lends r h.1)
 
 input_inside : (name : List ℕ) (x : Rep) (kept : Bool) → is_name name ≡ true → RepFits x → IsOneLine (t.input_text (record { name = name; rep = x; kept = kept }))
-input_inside name x kept h k = joined name (codes " " ++ (t.rep_text x ++ t.kept_text kept)) (name_inside name h) (joined (t.rep_text x) (t.kept_text kept) (rep_inside x k) (kept_inside kept))
+input_inside name x kept h k = joined name (codes " " ++ (rep_text x ++ t.kept_text kept)) (name_inside name h) (joined (rep_text x) (t.kept_text kept) (rep_inside x k) (kept_inside kept))
 
 header_inside : (name : List ℕ) (args regs : ℕ) → is_name name ≡ true → IsSmall args → IsSmall regs → IsOneLine (t.proc_header name args regs)
 header_inside name args regs h a r = joined name (codes " " ++ (decimal args ++ (codes " " ++ decimal regs))) (name_inside name h) (joined (decimal args) (codes " " ++ decimal regs) (small_inside args a) (small_inside regs r))
@@ -182,9 +183,9 @@ phrase_inside lends (phrase.Do r) h = register_inside r h
 phrase_inside lends (phrase.Ret rs) h = ret_inside rs h
 phrase_inside lends phrase.End h = refl
 
-indent_inside : (n : ℕ) → IsOneLine (t.indent n)
+indent_inside : (n : ℕ) → IsOneLine (indent n)
 indent_inside zero = refl
 indent_inside (suc n) = indent_inside n
 
 pub line_inside : (lends : Bool) (l : Line) → LineFits lends l → IsOneLine (t.line_text lends l)
-line_inside lends l h = joined (t.indent l.level) (t.phrase_text lends l.phrase) (indent_inside l.level) (phrase_inside lends l.phrase h)
+line_inside lends l h = joined (indent l.level) (t.phrase_text lends l.phrase) (indent_inside l.level) (phrase_inside lends l.phrase h)

@@ -3,7 +3,7 @@ use Rattle.std.proofs.Common.{◌≡◌, ℕ, true, false, List, ◌∷◌, ◌+
 use Rattle.target_code.specs.declared.tree.Calc.TheVariants as calc
 use Rattle.target_lines.specs.declared.line.Keyword.{Keyword}
 use Rattle.target_lines.specs.declared.line.Keyword.TheVariants as keyword
-use Rattle.target_lines.specs.Words.{keyword_text, keyword_of, keyword_names}
+use Rattle.target_lines.specs.LineWords.{keyword_text, keyword_of, keyword_names}
 use Rattle.target_lines.specs.Fits.{is_word}
 use Rattle.target_lines.specs.Reading.{begins_register}
 

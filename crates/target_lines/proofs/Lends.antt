@@ -11,7 +11,7 @@ use Rattle.target_lines.specs.declared.line.Keyword.TheVariants as keyword
 use Rattle.target_lines.specs.declared.line.Phrase.{Phrase}
 use Rattle.target_lines.specs.declared.line.Phrase.TheVariants as phrase
 use Rattle.target_lines.specs.declared.line.Line.{Line}
-use Rattle.target_lines.specs.Words.{keyword_of}
+use Rattle.target_lines.specs.LineWords.{keyword_of}
 use Rattle.target_lines.specs.Programs.{open_lends, phrase_lends}
 use Rattle.target_lines.specs.Reading as r
 

@@ -15,7 +15,8 @@ use Rattle.target_lines.specs.declared.line.Keyword.TheVariants as keyword
 use Rattle.target_lines.specs.declared.line.Phrase.{Phrase}
 use Rattle.target_lines.specs.declared.line.Phrase.TheVariants as phrase
 use Rattle.target_lines.specs.declared.line.Line.{Line}
-use Rattle.target_lines.specs.Words.{calc_text, keyword_of, keyword_names, rep_of, rep_names}
+use Rattle.target_lines.specs.LineWords.{calc_text, keyword_of, keyword_names, rep_of, rep_names}
+use Rattle.target_code.specs.Texts.{rep_text, indent}
 use Rattle.target_lines.specs.Texts as t
 use Rattle.target_code.specs.Names.{is_name}
 use Rattle.target_lines.specs.Fits.{IsSmall, AreSmall, RepFits, BranchFits, PlainFits, PhraseFits, LineFits}
@@ -110,7 +111,7 @@ plain_past lends (Open.Par left right) fits =
 abbrev Limited : Type 0
 Limited = Option (Rep × List ℕ)
 
-rep_past : (x : Rep) (kept : Bool) → RepFits x → r.rep_at (t.rep_text x ++ t.kept_text kept) ≡ Some (x, t.kept_text kept)
+rep_past : (x : Rep) (kept : Bool) → RepFits x → r.rep_at (rep_text x ++ t.kept_text kept) ≡ Some (x, t.kept_text kept)
 unfolding r.rep_at r.letters rep_of rep_names
 rep_past rep.Word true fits = refl
 rep_past rep.Word false fits = refl
@@ -133,8 +134,8 @@ rep_past (rep.Bits u) false fits = ap (λ (n : ℕ × List ℕ). let x : Limited
 rep_past (rep.Amap u) true fits = ap (λ (n : ℕ × List ℕ). let x : Limited = Some (rep.Amap n.0, n.1) in x) (small_past u (t.kept_text true) fits refl)
 rep_past (rep.Amap u) false fits = ap (λ (n : ℕ × List ℕ). let x : Limited = Some (rep.Amap n.0, n.1) in x) (small_past u (t.kept_text false) fits refl)
 
-rep_last : (x : Rep) → RepFits x → r.rep_at (t.rep_text x) ≡ Some (x, [])
-rep_last x fits = ap r.rep_at (sym (append-nil (t.rep_text x))) ∙ rep_past x false fits
+rep_last : (x : Rep) → RepFits x → r.rep_at (rep_text x) ≡ Some (x, [])
+rep_last x fits = ap r.rep_at (sym (append-nil (rep_text x))) ∙ rep_past x false fits
 
 kept_read : (kept : Bool) → not (r.is_empty (t.kept_text kept)) ≡ kept
 kept_read true = refl
@@ -144,7 +145,7 @@ input_past : (lends : Bool) (name : List ℕ) (x : Rep) (kept : Bool) → is_nam
     → r.phrase_at lends (t.input_text (record { name = name; rep = x; kept = kept })) ≡ Some (phrase.In (record { name = name; rep = x; kept = kept }))
 unfolding r.opened_by r.input_at
 input_past lends name x kept h fits =
-    let after = t.rep_text x ++ t.kept_text kept in
+    let after = rep_text x ++ t.kept_text kept in
     opened_past lends keyword.In (name ++ (32 ∷ after))
     ∙ ap (λ (w : List ℕ × List ℕ). r.input_with w.0 (r.rep_at (drop 1 w.1))) (name_past name (32 ∷ after) h refl)
     ∙ ap (r.input_with name) (rep_past x kept fits)
@@ -155,7 +156,7 @@ unfolding r.opened_by r.input_at r.proc_at r.phrase_at r.letters keyword_of keyw
 phrase_past lends (phrase.Sepref true) fits = refl
 phrase_past lends (phrase.Sepref false) fits = refl
 phrase_past lends (phrase.In p) fits = input_past lends p.name p.rep p.kept fits.0 fits.1
-phrase_past lends (phrase.Out x) fits = opened_past lends keyword.Out (t.rep_text x) ∙ ap r.output_with (rep_last x fits)
+phrase_past lends (phrase.Out x) fits = opened_past lends keyword.Out (rep_text x) ∙ ap r.output_with (rep_last x fits)
 phrase_past lends (phrase.Proc name args regs) fits =
     let after = decimal args ++ (codes " " ++ decimal regs) in
     opened_past lends keyword.Proc (name ++ (32 ∷ after))
@@ -192,7 +193,7 @@ no_space lends (b ∷ bs) p e =
     ] in
     all (nat_eq b 32) refl
 
-length_indent : (n : ℕ) → length (t.indent n) ≡ 2 * n
+length_indent : (n : ℕ) → length (indent n) ≡ 2 * n
 length_indent zero = refl
 length_indent (suc n) = omega (arith, length_indent n)
 
@@ -201,7 +202,7 @@ unfolding r.spaces
 no_more_spaces [] h = refl
 no_more_spaces (b ∷ bs) h = ap (λ v. cond v (suc (r.spaces bs)) 0) h
 
-spaces_past : (n : ℕ) (bs : List ℕ) → r.begins 32 bs ≡ false → r.spaces (t.indent n ++ bs) ≡ length (t.indent n)
+spaces_past : (n : ℕ) (bs : List ℕ) → r.begins 32 bs ≡ false → r.spaces (indent n ++ bs) ≡ length (indent n)
 unfolding r.spaces
 spaces_past zero bs h = no_more_spaces bs h
 spaces_past (suc n) bs h = ap (λ k. suc (suc k)) (spaces_past n bs h)
@@ -212,8 +213,8 @@ unfolding r.line_at
 line_past lends l fits =
     let bs = t.phrase_text lends l.phrase in
     let read = phrase_past lends l.phrase fits in
-    let level : length (t.indent l.level) / 2 ≡ l.level = omega (arith, length_indent l.level) in
-    ap (λ n. r.at_level (n / 2) (r.phrase_at lends (drop n (t.indent l.level ++ bs)))) (spaces_past l.level bs (no_space lends bs l.phrase read))
-    ∙ ap (λ x. r.at_level (length (t.indent l.level) / 2) (r.phrase_at lends x)) (drop-append_seam (t.indent l.level) bs)
-    ∙ ap (r.at_level (length (t.indent l.level) / 2)) read
+    let level : length (indent l.level) / 2 ≡ l.level = omega (arith, length_indent l.level) in
+    ap (λ n. r.at_level (n / 2) (r.phrase_at lends (drop n (indent l.level ++ bs)))) (spaces_past l.level bs (no_space lends bs l.phrase read))
+    ∙ ap (λ x. r.at_level (length (indent l.level) / 2) (r.phrase_at lends x)) (drop-append_seam (indent l.level) bs)
+    ∙ ap (r.at_level (length (indent l.level) / 2)) read
     ∙ ap (λ n. let x : Option Line = Some (record { level = n; phrase = l.phrase }) in x) level

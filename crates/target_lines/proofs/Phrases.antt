@@ -5,7 +5,7 @@ use Rattle.target_code.specs.declared.tree.Branch.{Branch}
 use Rattle.target_code.specs.declared.tree.Hand.{Hand}
 use Rattle.target_lines.specs.declared.line.Keyword.{Keyword}
 use Rattle.target_lines.specs.declared.line.Phrase.{Phrase}
-use Rattle.target_lines.specs.Words.{keyword_text, keyword_of}
+use Rattle.target_lines.specs.LineWords.{keyword_text, keyword_of}
 use Rattle.target_lines.specs.Texts as t
 use Rattle.target_code.specs.Names.{is_name}
 use Rattle.target_lines.specs.Fits.{is_word, AreSmall, HandFits, LendsFit, BranchFits}

@@ -1,4 +1,4 @@
-pub mod Words
+pub mod LineWords
 pub mod Texts
 pub mod Programs
 pub mod Reading

@@ -7,7 +7,7 @@ use Rattle.target_code.specs.declared.tree.Hand.{Hand}
 use Rattle.target_code.specs.declared.tree.Branch.{Branch}
 use Rattle.target_code.specs.declared.tree.Instr.TheVariants as instr
 use Rattle.target_code.specs.Names.{is_name}
-use Rattle.target_lines.specs.Words.{keyword_of, rep_of}
+use Rattle.target_lines.specs.LineWords.{keyword_of, rep_of}
 use Rattle.target_lines.specs.declared.line.Line.{Line}
 use Rattle.target_lines.specs.declared.line.Keyword.{Keyword}
 use Rattle.target_lines.specs.declared.line.Keyword.TheVariants as keyword
@@ -146,21 +146,28 @@ abbrev pub first : List ℕ → ℕ
 first [] = 0
 first (r ∷ rs) = r
 
--- what stands behind ` = `
-unfoldable pub targeted_by : List ℕ → Option Keyword → List ℕ → Option Phrase
-targeted_by to (Some keyword.Const) bs = Some (phrase.Plain (instr.Const (first to) (number_at bs).0))
-targeted_by to (Some keyword.Mov) bs = Some (phrase.Plain (instr.Mov (first to) (register_at bs).0))
-targeted_by to (Some (keyword.Calc word)) bs =
+-- what stands behind ` = ` where it is no call
+abbrev pub plain_by : ℕ → Option Keyword → List ℕ → Option Phrase
+plain_by to (Some keyword.Const) bs = Some (phrase.Plain (instr.Const to (number_at bs).0))
+plain_by to (Some keyword.Mov) bs = Some (phrase.Plain (instr.Mov to (register_at bs).0))
+plain_by to (Some (keyword.Calc word)) bs =
     let left = register_at bs in
     let right = register_at (drop 1 left.1) in
-    Some (phrase.Plain (instr.Calc (first to) word left.0 right.0))
-targeted_by to (Some keyword.Load) bs =
+    Some (phrase.Plain (instr.Calc to word left.0 right.0))
+plain_by to (Some keyword.Load) bs =
     let block = register_at bs in
     let index = register_at (drop 1 block.1) in
-    Some (phrase.Plain (instr.Load (first to) block.0 index.0))
-targeted_by to (Some keyword.Alloc) bs = Some (phrase.Plain (instr.Alloc (first to) (register_at bs).0))
-targeted_by to (Some keyword.Call) bs = let used = use_at bs in Some (phrase.Plain (instr.Call to used.0.0 used.0.1))
-targeted_by to _ bs = None
+    Some (phrase.Plain (instr.Load to block.0 index.0))
+plain_by to (Some keyword.Alloc) bs = Some (phrase.Plain (instr.Alloc to (register_at bs).0))
+plain_by to _ bs = None
+
+abbrev pub called_at : List ℕ → List ℕ → Option Phrase
+called_at to bs = let used = use_at bs in Some (phrase.Plain (instr.Call to used.0.0 used.0.1))
+
+-- what stands behind ` = `
+unfoldable pub targeted_by : List ℕ → Option Keyword → List ℕ → Option Phrase
+targeted_by to (Some keyword.Call) bs = called_at to bs
+targeted_by to word bs = plain_by (first to) word bs
 
 unfoldable pub targeted_at : List ℕ → Option Phrase
 targeted_at bs =

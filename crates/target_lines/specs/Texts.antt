@@ -1,18 +1,18 @@
 -- The one text of each line.
-use Rattle.std.specs.Prelude.{ℕ, zero, suc, Bool, true, false, IsTrue, not, nat_eq, List, [], ◌∷◌, ◌++◌, Option, Some, None, codes, decimal}
+use Rattle.std.specs.Prelude.{ℕ, Bool, true, false, IsTrue, not, nat_eq, List, [], ◌∷◌, ◌++◌, Option, Some, None, codes, decimal}
 use Rattle.std.specs.List.{flat_map, list_all}
 use Rattle.target_code.specs.declared.tree.Rep.{Rep}
-use Rattle.target_code.specs.declared.tree.Rep.TheVariants as rep
 use Rattle.target_code.specs.declared.tree.Calc.{Calc}
 use Rattle.target_code.specs.declared.tree.InParam.{InParam}
 use Rattle.target_code.specs.declared.tree.Hand.{Hand}
 use Rattle.target_code.specs.declared.tree.Branch.{Branch}
 use Rattle.target_code.specs.declared.tree.Instr.{Instr, out-Instr}
 use Rattle.target_code.specs.declared.tree.Instr.TheOpen as Open
+use Rattle.target_code.specs.Texts.{rep_text, indent}
 use Rattle.target_lines.specs.declared.line.Line.{Line}
 use Rattle.target_lines.specs.declared.line.Phrase.{Phrase}
 use Rattle.target_lines.specs.declared.line.Phrase.TheVariants as phrase
-use Rattle.target_lines.specs.Words.{calc_text}
+use Rattle.target_lines.specs.LineWords.{calc_text}
 
 -- rN
 abbrev pub register_text : ℕ → List ℕ
@@ -57,19 +57,6 @@ lends_text true hs = codes " lend [" ++ (hands_text hs ++ codes "]")
 -- one side of a `par`
 abbrev pub branch_text : Bool → Branch → List ℕ
 branch_text lends b = targets_text b.to ++ (use_text b.proc b.args ++ (codes " hand [" ++ (hands_text b.hands ++ (codes "]" ++ lends_text lends b.lends))))
-
--- REP; a slice stands in no formed program
-abbrev pub rep_text : Rep → List ℕ
-rep_text rep.Word = codes "word"
-rep_text rep.Flag = codes "flag"
-rep_text rep.Array = codes "array"
-rep_text rep.Slice = codes "slice"
-rep_text rep.Vec = codes "vec"
-rep_text (rep.Bits u) = codes "bits " ++ decimal u
-rep_text rep.Hset = codes "hset"
-rep_text (rep.Amap u) = codes "amap " ++ decimal u
-rep_text rep.Hmap = codes "hmap"
-rep_text rep.Heap = codes "heap"
 
 -- " kept" where an input is kept
 abbrev pub kept_text : Bool → List ℕ
@@ -133,11 +120,6 @@ phrase_text lends phrase.While = codes "while"
 phrase_text lends (phrase.Do t) = codes "do " ++ register_text t
 phrase_text lends (phrase.Ret rs) = ret_text rs
 phrase_text lends phrase.End = codes "end"
-
--- two spaces a level
-abbrev pub indent : ℕ → List ℕ
-indent zero = []
-indent (suc n) = 32 ∷ 32 ∷ indent n
 
 -- a line
 abbrev pub line_text : Bool → Line → List ℕ

@@ -4,7 +4,7 @@ use sqlite_items::Items;
 use target_code::{Calc, InParam, Instr, Name, Rep};
 
 /// A line.
-#[derive(Debug, Drop)]
+#[derive(Drop)]
 pub struct Line {
     /// How many levels of two spaces stand in front.
     pub level: u64,
@@ -13,7 +13,7 @@ pub struct Line {
 }
 
 /// What stands on a line behind its spaces.
-#[derive(Debug, Drop)]
+#[derive(Drop)]
 pub enum Phrase {
     /// The first line of a text. Where `lends`, each `par` line has its lends.
     Sepref { lends: bool },
@@ -38,8 +38,9 @@ pub enum Phrase {
     /// The end of a procedure, an `if` or a `while`.
     End,
 }
+
 /// The words with which phrases begin, and those behind ` = `.
-#[derive(Clone, Copy, PartialEq, Eq, Debug)]
+#[derive(Clone, Copy)]
 pub enum Keyword {
     Sepref,
     In,

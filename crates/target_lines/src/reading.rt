@@ -1,6 +1,7 @@
 //! Lines from text. A line is read leniently: what should stand where is taken for granted. Then it is held against its one text.
 
 ghost use Rattle.std.specs.Prelude.{◌≡◌, ◌≤◌, ◌<◌, ◌++◌, length, drop, false, IfOk, IfSome};
+ghost use Rattle.std.specs.Str.{bytes_eq};
 ghost use Rattle.target_lines.specs.declared.line.Line.{Line as LineOf};
 ghost use Rattle.target_lines.specs.Texts.{line_text};
 ghost use Rattle.target_lines.specs.Fits.{LineFits};
@@ -250,6 +251,66 @@ fn rep(bytes: &[u8]) -> Option<(Rep, &[u8])>
     }
 }
 
+/// What stands behind ` = ` where it is no call, by its first word. The result goes to the register.
+fn plain(to: u32, word: Option<Keyword>, bytes: &[u8]) -> Option<Phrase>
+    ensures { result ≡ spec.plain_by to word bytes.now }
+{
+    let instr = match word {
+        Some(Keyword::Const) => {
+            let (value, _) = number(bytes);
+            Instr::Const { to, value }
+        }
+        Some(Keyword::Mov) => {
+            let (from, _) = register(bytes);
+            Instr::Mov { to, from }
+        }
+        Some(Keyword::Calc(word)) => {
+            let (left, rest) = register(bytes);
+            let (right, _) = register(skip(1, rest));
+            Instr::Calc {
+                to,
+                word,
+                left,
+                right,
+            }
+        }
+        Some(Keyword::Load) => {
+            let (block, rest) = register(bytes);
+            let (index, _) = register(skip(1, rest));
+            Instr::Load { to, block, index }
+        }
+        Some(Keyword::Alloc) => {
+            let (len, _) = register(bytes);
+            Instr::Alloc { to, len }
+        }
+        _ => return None,
+    };
+    Some(Phrase::Plain(instr))
+}
+
+/// A call whose results go to the registers.
+fn call(alloc: Global, to: Items<u32>, bytes: &[u8]) -> Result<Option<Phrase>, AllocError>
+    ensures { IfOk result (λ p. p ≡ spec.called_at to bytes.now) }
+{
+    match application(alloc, bytes) {
+        Ok(
+            Applied {
+                name,
+                args,
+                rest: _,
+            },
+        ) => Ok(Some(Phrase::Plain(Instr::Call {
+            to,
+            proc: name,
+            args,
+        }))),
+        Err(error) => {
+            drop(to);
+            Err(error)
+        }
+    }
+}
+
 /// What stands behind ` = `, by its first word.
 #[tactic(auto, unfolding(crate::specs::Reading::targeted_by))]
 fn targeted_by(
@@ -260,57 +321,24 @@ fn targeted_by(
 ) -> Result<Option<Phrase>, AllocError>
     ensures { IfOk result (λ p. p ≡ spec.targeted_by to word bytes.now) }
 {
-    let first = match to.as_slice() {
+    match word {
+        Some(Keyword::Call) => call(alloc, to, bytes),
+        _ => {
+            let first = first(to.as_slice());
+            drop(to);
+            Ok(plain(first, word, bytes))
+        }
+    }
+}
+
+/// The first register, 0 where there is none.
+fn first(registers: &[u32]) -> u32
+    ensures { result ≡ spec.first registers.now }
+{
+    match registers {
         [first, ..] => *first,
         [] => 0,
-    };
-    let instr = match word {
-        Some(Keyword::Const) => {
-            let (value, _) = number(bytes);
-            Instr::Const { to: first, value }
-        }
-        Some(Keyword::Mov) => {
-            let (from, _) = register(bytes);
-            Instr::Mov { to: first, from }
-        }
-        Some(Keyword::Calc(word)) => {
-            let (left, rest) = register(bytes);
-            let (right, _) = register(skip(1, rest));
-            Instr::Calc {
-                to: first,
-                word,
-                left,
-                right,
-            }
-        }
-        Some(Keyword::Load) => {
-            let (block, rest) = register(bytes);
-            let (index, _) = register(skip(1, rest));
-            Instr::Load {
-                to: first,
-                block,
-                index,
-            }
-        }
-        Some(Keyword::Alloc) => {
-            let (len, _) = register(bytes);
-            Instr::Alloc { to: first, len }
-        }
-        Some(Keyword::Call) => {
-            let Applied {
-                name,
-                args,
-                rest: _,
-            } = application(alloc, bytes)?;
-            Instr::Call {
-                to,
-                proc: name,
-                args,
-            }
-        }
-        _ => return Ok(None),
-    };
-    Ok(Some(Phrase::Plain(instr)))
+    }
 }
 
 #[tactic(auto, unfolding(crate::specs::Reading::targeted_at))]
@@ -465,6 +493,15 @@ fn guess(alloc: Global, lends: bool, bytes: &[u8]) -> Result<Option<Line>, Alloc
     }
 }
 
+/// Whether the bytes are the text of the line.
+fn is_spelled(alloc: Global, lends: bool, line: &Line, bytes: &[u8]) -> Result<bool, AllocError>
+    ensures { IfOk result (λ same. same ≡ bytes_eq (line_text lends line.now) bytes.now) }
+{
+    let mut text = Vec::new(alloc);
+    writing::line(&mut text, lends, line)?;
+    Ok(text.as_slice() == bytes)
+}
+
 /// The line that the bytes are, if they are one. Where the first line shows no lends, it has none.
 pub fn line(alloc: Global, lends: bool, bytes: &[u8]) -> Result<Option<Line>, AllocError>
     ensures found { IfOk result (λ found. IfSome found (λ l. bytes.now ≡ line_text lends l)) }
@@ -473,13 +510,16 @@ pub fn line(alloc: Global, lends: bool, bytes: &[u8]) -> Result<Option<Line>, Al
 {
     match guess(alloc, lends, bytes)? {
         None => Ok(None),
-        Some(line) => {
-            let mut text = Vec::new(alloc);
-            writing::line(&mut text, lends, &line)?;
-            if text.as_slice() == bytes {
-                return Ok(Some(line));
+        Some(line) => match is_spelled(alloc, lends, &line, bytes) {
+            Ok(true) => Ok(Some(line)),
+            Ok(false) => {
+                drop(line);
+                Ok(None)
             }
-            Ok(None)
-        }
+            Err(error) => {
+                drop(line);
+                Err(error)
+            }
+        },
     }
 }

@@ -1,7 +1,7 @@
 //! The words of the format.
 
 ghost use Rattle.std.specs.Prelude.{◌≡◌, map};
-ghost use Rattle.target_lines.specs.Words.{name_of, keyword_of, rep_of};
+ghost use Rattle.target_lines.specs.LineWords.{name_of, keyword_of, rep_of};
 
 use crate::line::Keyword;
 use target_code::{Calc, Rep};

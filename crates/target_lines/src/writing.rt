@@ -1,26 +1,18 @@
 //! Lines as text.
 
 ghost use Rattle.std.specs.Prelude.{◌≡◌, ◌++◌, codes, decimal, OnOk};
-ghost use Rattle.target_lines.specs.Words.{calc_text};
+ghost use Rattle.target_lines.specs.LineWords.{calc_text};
 ghost use Rattle.target_lines.specs.Texts as texts;
 
 use crate::line::{Line, Phrase};
-use itoa::Buffer;
 use std::alloc::AllocError;
-use target_code::{Branch, Calc, Hand, InParam, Instr, Rep};
-
-fn number(out: &mut Vec<u8>, number: u64) -> Result<(), AllocError>
-    ensures { OnOk result (out.new.items ≡ out.old.items ++ decimal number) }
-{
-    let mut buffer = Buffer::new();
-    out.extend_from_slice(buffer.format(number).as_bytes())
-}
+use target_code::{Branch, Calc, Hand, InParam, Instr, Rep, push_indent, push_number, push_rep};
 
 pub fn register(out: &mut Vec<u8>, register: u32) -> Result<(), AllocError>
     ensures { OnOk result (out.new.items ≡ out.old.items ++ texts.register_text register) }
 {
     out.push(b'r')?;
-    number(out, u64::from(register))
+    push_number(out, u64::from(register))
 }
 
 fn registers(out: &mut Vec<u8>, list: &[u32]) -> Result<(), AllocError>
@@ -132,29 +124,6 @@ fn calc(calc: Calc) -> &'static [u8]
     }
 }
 
-fn rep(out: &mut Vec<u8>, rep: Rep) -> Result<(), AllocError>
-    ensures { OnOk result (out.new.items ≡ out.old.items ++ texts.rep_text rep) }
-{
-    match rep {
-        Rep::Word => out.extend_from_slice(b"word"),
-        Rep::Flag => out.extend_from_slice(b"flag"),
-        Rep::Array => out.extend_from_slice(b"array"),
-        Rep::Slice => out.extend_from_slice(b"slice"),
-        Rep::Vec => out.extend_from_slice(b"vec"),
-        Rep::Bits(limit) => {
-            out.extend_from_slice(b"bits ")?;
-            number(out, u64::from(limit))
-        }
-        Rep::Hset => out.extend_from_slice(b"hset"),
-        Rep::Amap(limit) => {
-            out.extend_from_slice(b"amap ")?;
-            number(out, u64::from(limit))
-        }
-        Rep::Hmap => out.extend_from_slice(b"hmap"),
-        Rep::Heap => out.extend_from_slice(b"heap"),
-    }
-}
-
 /// The line for an input.
 pub fn input(out: &mut Vec<u8>, input: &InParam) -> Result<(), AllocError>
     ensures { OnOk result (out.new.items ≡ out.old.items ++ texts.input_text input.now) }
@@ -162,7 +131,7 @@ pub fn input(out: &mut Vec<u8>, input: &InParam) -> Result<(), AllocError>
     out.extend_from_slice(b"in ")?;
     out.extend_from_slice(input.name.bytes())?;
     out.extend_from_slice(b" ")?;
-    rep(out, input.rep)?;
+    push_rep(out, input.rep)?;
     if input.kept {
         out.extend_from_slice(b" kept")?;
     }
@@ -174,25 +143,7 @@ pub fn output(out: &mut Vec<u8>, shown: Rep) -> Result<(), AllocError>
     ensures { OnOk result (out.new.items ≡ out.old.items ++ texts.result_text shown) }
 {
     out.extend_from_slice(b"out ")?;
-    rep(out, shown)
-}
-
-fn calculation(
-    out: &mut Vec<u8>,
-    to: u32,
-    word: Calc,
-    left: u32,
-    right: u32,
-) -> Result<(), AllocError>
-    ensures { OnOk result (out.new.items ≡ out.old.items ++ texts.calculation_text to word left right) }
-{
-    register(out, to)?;
-    out.extend_from_slice(b" = ")?;
-    out.extend_from_slice(calc(word))?;
-    out.extend_from_slice(b" ")?;
-    register(out, left)?;
-    out.extend_from_slice(b" ")?;
-    register(out, right)
+    push_rep(out, shown)
 }
 
 /// A word and a register.
@@ -211,12 +162,35 @@ fn assign(out: &mut Vec<u8>, to: u32, text: &[u8], from: u32) -> Result<(), Allo
     word(out, text, from)
 }
 
+/// Two registers, each behind a space.
+fn operands(out: &mut Vec<u8>, left: u32, right: u32) -> Result<(), AllocError>
+    ensures { OnOk result (out.new.items ≡ out.old.items ++ (codes " " ++ (texts.register_text left ++ (codes " " ++ texts.register_text right)))) }
+{
+    word(out, b" ", left)?;
+    word(out, b" ", right)
+}
+
+fn calculation(
+    out: &mut Vec<u8>,
+    to: u32,
+    word: Calc,
+    left: u32,
+    right: u32,
+) -> Result<(), AllocError>
+    ensures { OnOk result (out.new.items ≡ out.old.items ++ texts.calculation_text to word left right) }
+{
+    register(out, to)?;
+    out.extend_from_slice(b" = ")?;
+    out.extend_from_slice(calc(word))?;
+    operands(out, left, right)
+}
+
 fn constant(out: &mut Vec<u8>, to: u32, value: u64) -> Result<(), AllocError>
     ensures { OnOk result (out.new.items ≡ out.old.items ++ (texts.register_text to ++ (codes " = const " ++ decimal value))) }
 {
     register(out, to)?;
     out.extend_from_slice(b" = const ")?;
-    number(out, value)
+    push_number(out, value)
 }
 
 fn load(out: &mut Vec<u8>, to: u32, block: u32, index: u32) -> Result<(), AllocError>
@@ -230,8 +204,7 @@ fn store(out: &mut Vec<u8>, block: u32, index: u32, value: u32) -> Result<(), Al
     ensures { OnOk result (out.new.items ≡ out.old.items ++ (codes "store " ++ (texts.register_text block ++ (codes " " ++ (texts.register_text index ++ (codes " " ++ texts.register_text value)))))) }
 {
     word(out, b"store ", block)?;
-    word(out, b" ", index)?;
-    word(out, b" ", value)
+    operands(out, index, value)
 }
 
 fn call(out: &mut Vec<u8>, to: &[u32], name: &[u8], args: &[u32]) -> Result<(), AllocError>
@@ -288,9 +261,9 @@ pub fn header(out: &mut Vec<u8>, name: &[u8], args: u32, regs: u32) -> Result<()
     out.extend_from_slice(b"proc ")?;
     out.extend_from_slice(name)?;
     out.extend_from_slice(b" ")?;
-    number(out, u64::from(args))?;
+    push_number(out, u64::from(args))?;
     out.extend_from_slice(b" ")?;
-    number(out, u64::from(regs))
+    push_number(out, u64::from(regs))
 }
 
 /// The last line of a procedure's code.
@@ -304,16 +277,6 @@ pub fn ret(out: &mut Vec<u8>, list: &[u32]) -> Result<(), AllocError>
             registers(out, list)
         }
     }
-}
-
-/// Two spaces for each level.
-pub fn indent(out: &mut Vec<u8>, level: u64) -> Result<(), AllocError>
-    ensures { OnOk result (out.new.items ≡ out.old.items ++ texts.indent level) }
-{
-    for _ in 0..level {
-        out.extend_from_slice(b"  ")?;
-    }
-    Ok(())
 }
 
 /// What stands on a line behind its spaces.
@@ -340,6 +303,6 @@ pub fn phrase(out: &mut Vec<u8>, lends: bool, phrase: &Phrase) -> Result<(), All
 pub fn line(out: &mut Vec<u8>, lends: bool, line: &Line) -> Result<(), AllocError>
     ensures { OnOk result (out.new.items ≡ out.old.items ++ texts.line_text lends line.now) }
 {
-    indent(out, line.level)?;
+    push_indent(out, line.level)?;
     phrase(out, lends, &line.phrase)
 }

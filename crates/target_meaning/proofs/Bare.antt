@@ -1,12 +1,13 @@
 -- The notes of a tree do not matter for the machine.
-use Rattle.std.proofs.Common.{◌≡◌, ℕ, suc, ◌≤◌, max, Bool, true, false, cond, List, [], ◌∷◌, length, refl, sym, ap, ◌∙◌, subst, ⊎_elim, inl, inr}
+use Rattle.std.proofs.Common.{◌≡◌, ℕ, zero, suc, ◌≤◌, max, Bool, true, false, cond, List, [], ◌∷◌, length, refl, sym, ap, ◌∙◌, subst, ⊎_elim, inl, inr}
 use Rattle.std.specs.Prelude.{nat_lt}
 use Rattle.target_code.specs.declared.tree.Proc.{Proc}
 use Rattle.target_meaning.specs.declared.path.Side.{Side}
 use Rattle.target_meaning.specs.declared.path.Side.TheVariants.{Left, Right}
 use Rattle.target_meaning.specs.Leaf.{Stack, Run, End, Wait, Act, Go, Read, Write, Make, Cut, Split, Over, Bad, act}
-use Rattle.target_meaning.specs.Machine.{Heap, Cell, Never, Live, Freed, Tree, Leaf, Fork, Answer, Moved, Stuck, Full, NoSuchLeaf, NameUsed, Notes, nothing, Room, is_new, read_cell, write_cell, cut_cell, perform, join_ends, join_both, move, inside, depth}
+use Rattle.target_meaning.specs.Machine.{Heap, Cell, Never, Live, Freed, Tree, Leaf, Fork, Answer, Moved, Stuck, Full, NoSuchLeaf, NameUsed, Notes, nothing, Room, any_room, is_new, read_cell, write_cell, cut_cell, perform, join_ends, join_both, move, inside, depth}
 use Rattle.target_meaning.specs.Runs.{Schedule, and_then, OnMoved, reach, IsShallow, SomeLeaf, Race, bare, bare_answer}
+use Rattle.target_meaning.specs.LeftFirst.{has_ended, left_path, act_at, first_name, names_after, left_first, when_moved, left_schedule}
 use Rattle.target_meaning.proofs.Moved.{moved_map}
 
 if_bare : {A : Type 0} (b : Bool) (x y : Answer A) (u v : Answer (Unit {0})) → bare_answer x ≡ u → bare_answer y ≡ v → bare_answer (cond b x y) ≡ cond b u v
@@ -72,11 +73,51 @@ module _ {A : Type 0} (N : Notes A) (room : Room) where
   then_bare NoSuchLeaf k m e = refl
   then_bare NameUsed k m e = refl
 
+  ended_bare : (t : Tree A) → has_ended (bare t) ≡ has_ended t
+  ended_bare (Leaf a (End vs)) = refl
+  ended_bare (Leaf a (Run g cs)) = refl
+  ended_bare (Fork a w l r) = refl
+
+  path_bare : (t : Tree A) → left_path (bare t) ≡ left_path t
+  path_bare (Leaf a s) = refl
+  path_bare (Fork a w l r) = rw (ended_bare l, ended_bare r, path_bare l, path_bare r) refl
+
+  act_bare : (T : List Proc) (t : Tree A) (ds : List Side) → act_at T (bare t) ds ≡ act_at T t ds
+  act_bare T (Leaf a s) ds = refl
+  act_bare T (Fork a w l r) [] = refl
+  act_bare T (Fork a w l r) (Left ∷ ds) = act_bare T l ds
+  act_bare T (Fork a w l r) (Right ∷ ds) = act_bare T r ds
+
   pub reach_bare : (T : List Proc) (es : Schedule) (t : Tree A) (h : Heap) → bare_answer (reach N room T es t h) ≡ reach nothing room T es (bare t) h
   reach_bare T [] t h = refl
   reach_bare T (e ∷ es) t h =
       then_bare (move N room T t h e.0 e.1) _ (λ u g. reach nothing room T es u g) (λ u g. reach_bare T es u g) ∙
       ap (λ a. and_then a (λ u g. reach nothing room T es u g)) (move_bare T t h e.0 e.1)
+
+module _ {A : Type 0} (N : Notes A) (T : List Proc) where
+  pub left_bare : (n : ℕ) (xs : List ℕ) (t : Tree A) (h : Heap) → bare_answer (left_first N T n xs t h) ≡ left_first nothing T n xs (bare t) h
+  left_bare zero xs t h = refl
+  left_bare (suc n) xs t h =
+      then_bare N any_room (move N any_room T t h (left_path t) (first_name xs)) _ (λ u g. left_first nothing T n (names_after (act_at T t (left_path t)) xs) u g)
+      (λ u g. left_bare n (names_after (act_at T t (left_path t)) xs) u g) ∙
+      (ap (λ a. and_then a (λ u g. left_first nothing T n (names_after (act_at T t (left_path t)) xs) u g)) (move_bare N any_room T t h (left_path t) (first_name xs)) ∙
+      rw (path_bare N any_room t, act_bare N any_room T t (left_path t)) refl)
+
+  when_bare : (a : Answer A) (k : Tree A → Heap → Schedule) (m : Tree (Unit {0}) → Heap → Schedule) → ((u : Tree A) (g : Heap) → k u g ≡ m (bare u) g) → when_moved a k ≡ when_moved (bare_answer a) m
+  when_bare (Moved u g) k m e = e u g
+  when_bare (Stuck r) k m e = refl
+  when_bare Full k m e = refl
+  when_bare NoSuchLeaf k m e = refl
+  when_bare NameUsed k m e = refl
+
+  pub schedule_bare : (n : ℕ) (xs : List ℕ) (t : Tree A) (h : Heap) → left_schedule N T n xs t h ≡ left_schedule nothing T n xs (bare t) h
+  schedule_bare zero xs t h = refl
+  schedule_bare (suc n) xs t h =
+      ap (λ es. (left_path t, first_name xs) ∷ es)
+      (when_bare (move N any_room T t h (left_path t) (first_name xs)) _ (λ u g. left_schedule nothing T n (names_after (act_at T t (left_path t)) xs) u g)
+      (λ u g. schedule_bare n (names_after (act_at T t (left_path t)) xs) u g)) ∙
+      (ap (λ a. (left_path t, first_name xs) ∷ when_moved a (λ u g. left_schedule nothing T n (names_after (act_at T t (left_path t)) xs) u g)) (move_bare N any_room T t h (left_path t) (first_name xs)) ∙
+      rw (path_bare N any_room t, act_bare N any_room T t (left_path t)) refl)
 
 pub depth_bare : {A : Type 0} (t : Tree A) → depth (bare t) ≡ depth t
 depth_bare (Leaf a s) = refl
@@ -97,6 +138,34 @@ shallow_bare N room T (e ∷ es) t h w = (
       (moved_from (move N room T t h e.0 e.1) (λ u g. IsShallow nothing room T es u g)
       (subst (λ y. OnMoved y (λ u g. IsShallow nothing room T es u g)) (sym (move_bare N room T t h e.0 e.1)) w.1)),
 )
+
+moved_to : {A : Type 0} (a : Answer A) (P : Tree (Unit {0}) → Heap → Type 0) → OnMoved a (λ t h. P (bare t) h) → OnMoved (bare_answer a) P
+moved_to (Moved t h) P m = m
+moved_to (Stuck r) P m = tt
+moved_to Full P m = tt
+moved_to NoSuchLeaf P m = tt
+moved_to NameUsed P m = tt
+
+pub bare_shallow : {A : Type 0} (N : Notes A) (room : Room) (T : List Proc) (es : Schedule) (t : Tree A) (h : Heap) → IsShallow N room T es t h → IsShallow nothing room T es (bare t) h
+bare_shallow N room T [] t h w = subst (λ y. y ≤ 64) (sym (depth_bare t)) w
+bare_shallow N room T (e ∷ es) t h w = (
+  subst (λ y. y ≤ 64) (sym (depth_bare t)) w.0,
+  subst (λ y. OnMoved y (λ u g. IsShallow nothing room T es u g)) (move_bare N room T t h e.0 e.1)
+      (moved_to (move N room T t h e.0 e.1) (λ u g. IsShallow nothing room T es u g)
+      (moved_map (move N room T t h e.0 e.1) (λ u g. IsShallow N room T es u g) (λ u g. IsShallow nothing room T es (bare u) g) (λ u g m. bare_shallow N room T es u g m) w.1)),
+)
+
+bare_some : {A : Type 0} (t : Tree A) (P R : Stack → Type 0) → ((s : Stack) → P s → R s) → SomeLeaf t P → SomeLeaf (bare t) R
+bare_some (Leaf a s) P R f m = f s m
+bare_some (Fork a w l r) P R f m = ⊎_elim (λ x. inl (bare_some l P R f x)) (λ x. inr (bare_some r P R f x)) m
+
+pub bare_race : {A : Type 0} (T : List Proc) (h : Heap) (t : Tree A) → Race T h t → Race T h (bare t)
+bare_race T h (Leaf a s) m = m
+bare_race T h (Fork a w l r) m =
+    ⊎_elim
+    (λ x. inl (bare_some l _ _ (λ s y. bare_some r _ _ (λ u z. z) y) x))
+    (λ x. ⊎_elim (λ y. inr (inl (bare_race T h l y))) (λ y. inr (inr (bare_race T h r y))) x)
+    m
 
 some_bare : {A : Type 0} (t : Tree A) (P R : Stack → Type 0) → ((s : Stack) → P s → R s) → SomeLeaf (bare t) P → SomeLeaf t R
 some_bare (Leaf a s) P R f m = f s m

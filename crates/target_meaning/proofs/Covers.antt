@@ -13,12 +13,12 @@ use Rattle.target_meaning.specs.declared.answer.Reason.TheVariants.{Index}
 use Rattle.target_meaning.specs.Leaf.{Stack, Run, End, Wait, Act, Go, Read, Write, Make, Cut, Split, Over, Bad, act}
 use Rattle.target_meaning.specs.Machine.{Heap, Cell, Never, Live, Freed, Tree, Leaf, Fork, Moved, Stuck, Full, NameUsed, Room, put_cell, with_cell, is_new, with_block, read_cell, write_cell, cut_cell, perform, join_ends, join_both, move}
 use Rattle.target_meaning.specs.Piece.{whole, Share, Nil, Some_of, add, Piece, plus, at_place, Fits, Holds, IsWhole, Covers}
-use Rattle.target_meaning.specs.Held.{left_takes, right_takes, block_of, stored, with_new, without, held_after, holdings, total, AllWhole, Fine, AllFine}
+use Rattle.target_meaning.specs.Held.{left_takes, right_takes, block_of, valued, stored, with_new, without, held_after, holdings, total, AllWhole, Fine, AllFine}
 use Rattle.target_meaning.specs.Runs.{OnMoved}
 use Rattle.target_meaning.proofs.Shares.{add-nil, fits_right}
 use Rattle.target_meaning.proofs.Lists.{get-set_other}
 use Rattle.target_meaning.proofs.Moved.{moved_map, moved_inside, moved_if}
-use Rattle.target_meaning.proofs.Keeps.{fork_sum, whole_alone, none_here, new_is, cell_same, cell_other, left_out, right_out}
+use Rattle.target_meaning.proofs.Keeps.{fork_sum, whole_alone, none_here, new_is, cell_same, cell_other, valued_still, left_out, right_out}
 use Rattle.target_meaning.proofs.Races.{cut_alone}
 
 pub write_framed : (p q : Piece) (h : Heap) (b i v x : ℕ) (s : Stack) → Holds (plus p q) h → IsWhole (p b (suc i)) → held_after (plus p q) (Write b i v s) x ≡ plus (held_after p (Write b i v s) x) q
@@ -29,11 +29,11 @@ write_framed p q h b i v x s hs w = fun_ext (λ c. fun_ext (λ j. at c j))
 
     at : (c j : ℕ) → held_after (plus p q) (Write b i v s) x c j ≡ add (held_after p (Write b i v s) x c j) (q c j)
     at c j =
-        cond_both (eqb c b && eqb j (suc i)) (Some_of v (whole - 1)) (p c j)
-        (λ y. cond (eqb c b && eqb j (suc i)) (Some_of v (whole - 1)) (add (p c j) (q c j)) ≡ add y (q c j))
+        cond_both (eqb c b && eqb j (suc i)) (valued (p c j) v) (p c j)
+        (λ y. cond (eqb c b && eqb j (suc i)) (valued (add (p c j) (q c j)) v) (add (p c j) (q c j)) ≡ add y (q c j))
         (λ e. let both = and_parts (eqb c b) (eqb j (suc i)) e in
         let bit : q c j ≡ Nil = rw (eqb-true c b both.0, eqb-true j (suc i) both.1) alone in
-        cond-true (eqb c b && eqb j (suc i)) _ _ e ∙ sym (ap (add (Some_of v (whole - 1))) bit ∙ add-nil (Some_of v (whole - 1))))
+        cond-true (eqb c b && eqb j (suc i)) _ _ e ∙ ap (λ y. valued (add (p c j) y) v) bit ∙ ap (λ y. valued y v) (add-nil (p c j)) ∙ sym (ap (add (valued (p c j) v)) bit ∙ add-nil (valued (p c j) v)))
         (λ e. cond-false (eqb c b && eqb j (suc i)) _ _ e)
 
 pub make_framed : (p q : Piece) (h : Heap) (n x : ℕ) (k : ℕ → Stack) → Holds (plus p q) h → h.cells x ≡ Never → held_after (plus p q) (Make n k) x ≡ plus (held_after p (Make n k) x) q
@@ -77,9 +77,10 @@ place_same h b i v c j ws u e d at =
     same_block k a = subst (λ y. (z : ℕ) × (at_place y j ≡ Some z)) (sym (ap h.cells k ∙ e)) (here j k refl a)
 
 module _ (r : Piece) (h : Heap) (cv : Covers r h) where
-  write_covers : (b i v : ℕ) (ws : List ℕ) → h.cells b ≡ Live ws → Covers (stored r b i v) (with_cell h b (Live (slice_set ws i v)))
-  write_covers b i v ws e c j u at =
-      cond_both {A = Share} (eqb c b && eqb j (suc i)) (Some_of v (whole - 1)) (r c j) IsWhole (λ d. refl)
+  write_covers : (b i v : ℕ) (ws : List ℕ) → IsWhole (r b (suc i)) → h.cells b ≡ Live ws → Covers (stored r b i v) (with_cell h b (Live (slice_set ws i v)))
+  write_covers b i v ws w e c j u at =
+      cond_both {A = Share} (eqb c b && eqb j (suc i)) (valued (r c j) v) (r c j) IsWhole
+      (λ d. let both = and_parts (eqb c b) (eqb j (suc i)) d in rw (eqb-true c b both.0, eqb-true j (suc i) both.1) (valued_still (r b (suc i)) v w))
       (λ d. let z = place_same h b i v c j ws u e d at in cv c j z.0 z.1)
 
   block_whole : (n j u : ℕ) → at_place (Live (replicate n 0)) j ≡ Some u → IsWhole (block_of n j)
@@ -114,7 +115,10 @@ module _ (room : Room) (p q : Piece) (h : Heap) (x : ℕ) (hs : Holds (plus p q)
   store_covers Freed b i v s e w = tt
   store_covers (Live ws) b i v s e w =
       moved_if (nat_lt i (length ws)) (Moved (Leaf (stored p b i v) s) (with_cell h b (Live (slice_set ws i v)))) (Stuck Index) (Covered q)
-      (λ lt. subst (λ y. Covers y (with_cell h b (Live (slice_set ws i v)))) (write_framed p q h b i v x s hs w) (write_covers (plus p q) h cv b i v ws e)) (λ e. tt)
+      (λ lt. subst (λ y. Covers y (with_cell h b (Live (slice_set ws i v)))) (write_framed p q h b i v x s hs w) (write_covers (plus p q) h cv b i v ws all e)) (λ e. tt)
+    where
+      all : IsWhole (add (p b (suc i)) (q b (suc i)))
+      all = subst IsWhole (sym (ap (add (p b (suc i))) (whole_alone (p b (suc i)) (q b (suc i)) _ w (hs.places b (suc i))) ∙ add-nil (p b (suc i)))) w
 
   free_covers : (c : Cell) (b : ℕ) (s : Stack) → h.cells b ≡ c → AllWhole (p b 0) (p b) → OnMoved (cut_cell holdings c b (without p b) s h) (Covered q)
   free_covers Never b s e w = tt

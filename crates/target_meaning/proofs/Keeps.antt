@@ -11,9 +11,9 @@ use Rattle.target_meaning.specs.declared.path.Side.{Side}
 use Rattle.target_meaning.specs.declared.answer.Reason.TheVariants.{Index}
 use Rattle.target_meaning.specs.declared.path.Side.TheVariants.{Left, Right}
 use Rattle.target_meaning.specs.Leaf.{Stack, Run, End, Wait, Act, Go, Read, Write, Make, Cut, Split, Over, Bad, act}
-use Rattle.target_meaning.specs.Machine.{Heap, Cell, Never, Live, Freed, Tree, Leaf, Fork, Moved, Stuck, Full, NameUsed, put_cell, with_cell, is_never, is_new, with_block, Room, has_room, IsSized, read_cell, write_cell, cut_cell, perform, join_ends, join_both, move}
+use Rattle.target_meaning.specs.Machine.{Heap, Cell, Never, Live, Freed, Tree, Leaf, Fork, Moved, Stuck, Full, NameUsed, put_cell, with_cell, is_never, is_new, with_block, Room, has_room, any_room, no_blocks, IsSized, read_cell, write_cell, cut_cell, perform, join_ends, join_both, move}
 use Rattle.target_meaning.specs.Piece.{whole, Share, Nil, Some_of, Clash, add_if, add, Piece, plus, at_place, Fits, IsHeap, Holds, share_of, half, rest, IsWhole}
-use Rattle.target_meaning.specs.Held.{Take, in_part, given_share, kept_share, given, kept, all_given, all_kept, left_takes, right_takes, block_of, held_after, holdings, total, AllWhole, Fine, AllFine}
+use Rattle.target_meaning.specs.Held.{Take, in_part, given_share, kept_share, given, kept, all_given, all_kept, left_takes, right_takes, block_of, valued, stored, held_after, holdings, total, AllWhole, Fine, AllFine}
 use Rattle.target_meaning.specs.Runs.{OnMoved}
 use Rattle.target_meaning.proofs.Shares.{add-nil, add_same, plus-comm, plus-assoc, fits_left, fits_right}
 use Rattle.target_meaning.proofs.Lists.{get-set_same, get-set_other, get-replicate, get_past}
@@ -70,6 +70,21 @@ none_here Nil f = refl
 none_here (Some_of v k) f = absurd (let g : ⊥ = cc f.0 in g)
 none_here Clash f = absurd f
 
+-- a whole share of another value is whole
+pub valued_whole : (a : Share) (v : ℕ) → IsWhole a → valued a v ≡ Some_of v (whole - 1)
+valued_whole Nil v w = absurd w
+valued_whole (Some_of u k) v w = ap (Some_of v) (let e : k ≡ whole - 1 = omega (arith, w) in e)
+valued_whole Clash v w = absurd w
+
+pub valued_still : (a : Share) (v : ℕ) → IsWhole a → IsWhole (valued a v)
+valued_still Nil v w = w
+valued_still (Some_of u k) v w = w
+valued_still Clash v w = w
+
+-- a piece after a store to a word that is held whole
+pub stored_word : (p : Piece) (b i v : ℕ) → IsWhole (p b (suc i)) → stored p b i v b (suc i) ≡ Some_of v (whole - 1)
+stored_word p b i v w = rw (eq-eqb b b refl, eq-eqb (suc i) (suc i) refl) (valued_whole (p b (suc i)) v w)
+
 -- a cell after a write
 pub cell_same : (h : Heap) (b : ℕ) (c : Cell) → put_cell h b c b ≡ c
 cell_same h b c = cond-true (eqb b b) c (h.cells b) (eq-eqb b b refl)
@@ -78,13 +93,18 @@ pub cell_other : (h : Heap) (b x : ℕ) (c : Cell) → eqb x b ≡ false → put
 cell_other h b x c e = cond-false (eqb x b) c (h.cells x) e
 
 -- a heap with one cell changed
-heap_with : (h : Heap) (b : ℕ) (c : Cell) → IsHeap h → ((ws : List ℕ) → c ≡ Live ws → length ws < h.cap) → IsHeap (with_cell h b c)
+pub heap_with : (h : Heap) (b : ℕ) (c : Cell) → IsHeap h → ((ws : List ℕ) → c ≡ Live ws → (length ws < h.cap) × (b ≤ h.cap)) → IsHeap (with_cell h b c)
 heap_with h b c ok f = record {
   word = ok.word;
   short = λ x ws e.
       ⊎_elim
-      (λ k. f ws (sym (cond-true (eqb x b) c (h.cells x) k.0) ∙ e))
+      (λ k. (f ws (sym (cond-true (eqb x b) c (h.cells x) k.0) ∙ e)).0)
       (λ k. ok.short x ws (sym (cond-false (eqb x b) c (h.cells x) k.0) ∙ e))
+      (eqb_tells x b);
+  named = λ x ws e.
+      ⊎_elim
+      (λ k. subst (λ z. z ≤ h.cap) (sym k.1) (f ws (sym (cond-true (eqb x b) c (h.cells x) k.0) ∙ e)).1)
+      (λ k. ok.named x ws (sym (cond-false (eqb x b) c (h.cells x) k.0) ∙ e))
       (eqb_tells x b);
 }
 
@@ -93,7 +113,7 @@ module _ (p q : Piece) (h : Heap) (b : ℕ) where
   module _ (i v : ℕ) (s : Stack) (x : ℕ) (ws : List ℕ) where
     write_same : IsWhole (p b (suc i)) → i < length ws → Fits (add (p b (suc i)) (q b (suc i))) (slice_get ws i) → Fits (add (held_after p (Write b i v s) x b (suc i)) (q b (suc i))) (slice_get (slice_set ws i v) i)
     write_same w lt f =
-        let bit : held_after p (Write b i v s) x b (suc i) ≡ Some_of v (whole - 1) = rw (eq-eqb b b refl, eq-eqb (suc i) (suc i) refl) refl in
+        let bit : held_after p (Write b i v s) x b (suc i) ≡ Some_of v (whole - 1) = stored_word p b i v w in
         rw (bit, whole_alone (p b (suc i)) (q b (suc i)) (slice_get ws i) w f) (get-set_same ws i v lt, lit< tt)
 
     write_other : (c j : ℕ) → (eqb c b && eqb j (suc i)) ≡ false → held_after p (Write b i v s) x c j ≡ p c j
@@ -121,7 +141,7 @@ module _ (p q : Piece) (h : Heap) (b : ℕ) where
     pub write_keeps : h.cells b ≡ Live ws → IsWhole (p b (suc i)) → i < length ws → Holds (plus p q) h → Holds (plus (held_after p (Write b i v s) x) q) (with_cell h b (Live (slice_set ws i v)))
     write_keeps e w lt hs = record {
       places = write_places e w lt hs;
-      heap = heap_with h b (Live (slice_set ws i v)) hs.heap (λ us d. let k : slice_set ws i v ≡ us = cc d in omega (arith, hs.heap.short b ws e, length-set ws i v, ap length k));
+      heap = heap_with h b (Live (slice_set ws i v)) hs.heap (λ us d. let k : slice_set ws i v ≡ us = cc d in (omega (arith, hs.heap.short b ws e, length-set ws i v, ap length k), hs.heap.named b ws e));
     }
 
   -- a block that is freed
@@ -152,7 +172,7 @@ module _ (p q : Piece) (h : Heap) (b : ℕ) where
         (eqb_tells c b)
 
     pub cut_keeps : h.cells b ≡ Live ws → AllWhole (p b 0) (p b) → Holds (plus p q) h → Holds (plus (held_after p (Cut b s) x) q) (with_cell h b Freed)
-    cut_keeps e w hs = record { places = cut_places e w hs; heap = heap_with h b Freed hs.heap (λ us d. cc d) }
+    cut_keeps e w hs = record { places = cut_places e w hs; heap = heap_with h b Freed hs.heap (λ us d. absurd (let f : ⊥ = cc d in f)) }
 
 -- a block that is made
 block_fits : (n j : ℕ) → Fits (block_of n j) (at_place (Live (replicate n 0)) j)
@@ -165,6 +185,9 @@ pub never_is : (c : Cell) → is_never c ≡ true → c ≡ Never
 never_is Never e = refl
 never_is (Live ws) e = absurd (let f : ⊥ = cc e in f)
 never_is Freed e = absurd (let f : ⊥ = cc e in f)
+
+pub new_below : (h : Heap) (x : ℕ) → is_new h x ≡ true → x ≤ h.cap
+new_below h x e = leb-true x h.cap (and_parts (nat_lt 0 x) (nat_le x h.cap) (and_parts (nat_lt 0 x && nat_le x h.cap) (is_never (h.cells x)) e).0).1
 
 pub new_is : (h : Heap) (x : ℕ) → is_new h x ≡ true → h.cells x ≡ Never
 new_is h x e = never_is (h.cells x) (and_parts (nat_lt 0 x && nat_le x h.cap) (is_never (h.cells x)) e).1
@@ -180,18 +203,26 @@ make_places p q h n x k e hs c j =
     rw (bit, cell_other h x c (Live (replicate n 0)) w.0) (hs.places c j))
     (eqb_tells c x)
 
-pub make_keeps : (p q : Piece) (h : Heap) (n x : ℕ) (k : ℕ → Stack) → h.cells x ≡ Never → n < h.cap → Holds (plus p q) h → Holds (plus (held_after p (Make n k) x) q) (with_block h x n)
-make_keeps p q h n x k e room hs = record {
+pub make_keeps : (p q : Piece) (h : Heap) (n x : ℕ) (k : ℕ → Stack) → h.cells x ≡ Never → n < h.cap → x ≤ h.cap → Holds (plus p q) h → Holds (plus (held_after p (Make n k) x) q) (with_block h x n)
+make_keeps p q h n x k e room name hs = record {
   places = make_places p q h n x k e hs;
   heap = record {
     word = hs.heap.word;
-    short = (heap_with h x (Live (replicate n 0)) hs.heap (λ us d. let l : replicate n 0 ≡ us = cc d in omega (arith, room, length-replicate {A = ℕ} n 0, ap length l))).short;
+    short = made.short;
+    named = made.named;
   };
 }
+  where
+    made : IsHeap (with_cell h x (Live (replicate n 0)))
+    made = heap_with h x (Live (replicate n 0)) hs.heap (λ us d. let l : replicate n 0 ≡ us = cc d in (omega (arith, room, length-replicate {A = ℕ} n 0, ap length l), name))
 
 -- an `alloc` that fits makes a block that is shorter than the capacity
 pub room_sized : IsSized has_room
 room_sized h n e = omega (arith, leb-true (h.claimed + n + 1) h.cap e)
+
+-- and one that is not tested may be of any length
+pub any_unsized : IsSized any_room → ⊥
+any_unsized sized = omega (arith, sized (no_blocks 0) 0 refl)
 
 -- one step of a leaf
 abbrev pub Kept : Piece → Tree Piece → Heap → Type 0
@@ -222,7 +253,7 @@ module _ (room : Room) (sized : IsSized room) (p q : Piece) (h : Heap) (x : ℕ)
   leaf_keeps f (Make n k) w =
       moved_if (room h n) _ Full (Kept q)
       (λ e. moved_if (is_new h x) (Moved (Leaf (held_after p (Make n k) x) (k x)) (with_block h x n)) NameUsed (Kept q)
-      (λ d. make_keeps p q h n x k (new_is h x d) (sized h n e) hs) (λ d. tt))
+      (λ d. make_keeps p q h n x k (new_is h x d) (sized h n e) (new_below h x d) hs) (λ d. tt))
       (λ e. tt)
   leaf_keeps f (Cut b s) w = cut_step (h.cells b) b s refl w
   leaf_keeps f (Split l r w') w =

@@ -180,6 +180,8 @@ module _ (code : List Instr) (old new front : List Outer) (level : Outer) (n : �
       front = front;
       level = level;
       split = split;
+      begins = refl;
+      inside = sym (ap (λ x. list_at code x) split ∙ snoc_list code front level ∙ ap (λ x. inner_of level.inner x) there ∙ ap (λ k. inner_code k (out-Instr i)) b ∙ l.first_code);
       is = from_inner ∙ ap (λ k. after_inner k line (out-Instr i) ++ items_at 1 code front next) b ∙ ap (λ x. x ++ items_at 1 code front next) (l.first line);
       again = from_second 1 code front level.index i t there l ∙ ap (λ m. do_all (second_line line l.cond) l.body ++ (do_all (suc line) l.cond ++ Test line l.cond t l.body ∷ items_at 1 code front m)) (sym is);
     }

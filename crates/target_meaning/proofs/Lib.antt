@@ -14,6 +14,8 @@ pub mod Stuck
 pub mod Covers
 pub mod Compatible
 pub mod Cases
-pub mod Checked
 pub mod Numbered
+pub mod Counted
+pub mod Viewed
 pub mod Roomy
+pub mod Parts

@@ -75,9 +75,15 @@ abbrev pub block_of : ℕ → ℕ → Share
 block_of n zero = Some_of n (whole - 1)
 block_of n (suc i) = if nat_lt i n then Some_of 0 (whole - 1) else Nil
 
--- a piece after a store
+-- a share of another value
+abbrev pub valued : Share → ℕ → Share
+valued Nil v = Nil
+valued (Some_of u k) v = Some_of v k
+valued Clash v = Clash
+
+-- a piece after a store: the word has the new value, and as much of it is held as before
 abbrev pub stored : Piece → ℕ → ℕ → ℕ → Piece
-stored p b i v c j = if (c == b) && (j == suc i) then Some_of v (whole - 1) else p c j
+stored p b i v c j = if (c == b) && (j == suc i) then valued (p c j) v else p c j
 
 -- a piece with a new block of zeros, whole
 abbrev pub with_new : Piece → ℕ → ℕ → Piece

@@ -16,3 +16,4 @@ pub mod Turns
 pub mod Memories
 pub mod Trees
 pub mod States
+pub mod Views

@@ -1,8 +1,12 @@
 -- The lines of a procedure's text.
-use Rattle.std.specs.Prelude.{ℕ, zero, suc, ◌+◌, List, [], ◌∷◌}
+use Rattle.std.specs.Prelude.{ℕ, zero, suc, ◌+◌, ◌-◌, ◌^◌, min, List, [], ◌∷◌}
 use Rattle.target_code.specs.declared.tree.Instr.{Instr, Instr-F}
 use Rattle.target_code.specs.declared.tree.Instr.TheOpen as Open
 use Rattle.target_code.specs.declared.tree.Instr.TheFolds.{fold-Instr}
+
+-- a count as a word: the greatest word stands for all counts that are no word
+abbrev pub counted : ℕ → ℕ
+counted n = min n (2 ^ 64 - 1)
 
 -- how many lines an instruction takes, by those of its inner codes: an `if` has lines for `if`, `else` and `end`, a loop for `while`, `do` and `end`
 abbrev pub lines_step : Open.Instr-F ℕ ℕ → ℕ

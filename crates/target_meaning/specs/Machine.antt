@@ -99,7 +99,7 @@ has_room h n = nat_le (h.claimed + n + 1) h.cap
 abbrev pub any_room : Room
 any_room h n = true
 
--- an `alloc` that may be made is of a block that is shorter than the capacity
+-- an `alloc` that may be made is of a block that is shorter than the capacity: so it is where the capacity is tested, and not where it is not
 abbrev pub IsSized : Room → Type 0
 IsSized room = (h : Heap) (n : ℕ) → room h n ≡ true → n < h.cap
 

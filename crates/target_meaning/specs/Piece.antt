@@ -51,10 +51,11 @@ Fits Nil o = Unit {0}
 Fits (Some_of v k) o = (o ≡ Some v) × (k < whole)
 Fits Clash o = ⊥
 
--- a heap as the machine makes it: the capacity is a word, and each live block is shorter than the capacity
+-- a lawful heap, as the machine makes it: the capacity is a word, each live block is shorter than the capacity, and each live name is at most the capacity, so a word
 pub record IsHeap (h : Heap) : Type 0 where
   pub word : h.cap < 2 ^ 64
   pub short : (b : ℕ) (ws : List ℕ) → h.cells b ≡ Live ws → length ws < h.cap
+  pub named : (b : ℕ) (ws : List ℕ) → h.cells b ≡ Live ws → b ≤ h.cap
 
 -- a heap has what a piece holds
 pub record Holds (p : Piece) (h : Heap) : Type 0 where

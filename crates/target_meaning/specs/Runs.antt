@@ -42,7 +42,7 @@ AtLeaf (Fork a w l r) [] P = ⊥
 AtLeaf (Fork a w l r) (Left ∷ ds) P = AtLeaf l ds P
 AtLeaf (Fork a w l r) (Right ∷ ds) P = AtLeaf r ds P
 
--- the state that a schedule reaches: each of its entries is one step
+-- the state that a schedule reaches: each of its entries is one step; once a step had an answer other than a new state, that is the answer to each longer schedule
 abbrev pub reach : {A : Type 0} → Notes A → Room → List Proc → Schedule → Tree A → Heap → Answer A
 reach N room T [] t h = Moved t h
 reach N room T (e ∷ es) t h = and_then (move N room T t h e.0 e.1) (λ u g. reach N room T es u g)

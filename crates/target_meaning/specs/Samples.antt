@@ -16,11 +16,15 @@ use Rattle.target_meaning.specs.Runs.{Schedule}
 abbrev pub proc_of : List ℕ → ℕ → ℕ → List Instr → List ℕ → Proc
 proc_of name args regs list ret = record { name = name; args = args; regs = regs; code = record { list = list }; ret = ret }
 
+-- the element of an array at an index: block, offset, length, index
+abbrev pub array_get : Proc
+array_get = proc_of (codes "array_get") 4 6 (Calc 4 Add 1 3 ∷ Load 5 0 4 ∷ []) (5 ∷ [])
+
 -- `main` reads the first element of an array by a call of `array_get`
 abbrev pub reading : List Proc
 reading =
     proc_of (codes "main") 3 5 (Const 3 0 ∷ Call (4 ∷ []) (codes "array_get") (0 ∷ 1 ∷ 2 ∷ 3 ∷ []) ∷ []) (4 ∷ []) ∷
-    proc_of (codes "array_get") 4 6 (Calc 4 Add 1 3 ∷ Load 5 0 4 ∷ []) (5 ∷ []) ∷
+    array_get ∷
     []
 
 -- a heap with the block 1, which has the words 7 and 8

@@ -5,12 +5,12 @@ use Rattle.target_code.specs.declared.tree.Instr.{Instr, out-Instr}
 use Rattle.target_meaning.specs.declared.place.Outer.{Outer}
 use Rattle.target_meaning.specs.declared.place.Inner.{Inner}
 use Rattle.target_meaning.specs.declared.place.Inner.TheVariants.{Cond, Body}
-use Rattle.target_meaning.specs.declared.settle.Next.{Next}
-use Rattle.target_meaning.specs.declared.settle.Next.TheVariants.{Do, Test, Return}
+use Rattle.target_meaning.specs.declared.settle.Standing.{Standing}
+use Rattle.target_meaning.specs.declared.settle.Standing.TheVariants.{Do, Test, Return}
 use Rattle.target_meaning.specs.declared.settle.After.{After}
 use Rattle.target_meaning.specs.declared.settle.After.TheVariants as a
 use Rattle.target_meaning.specs.Leaf as leaf
-use Rattle.target_meaning.specs.Place.{items_at, list_at, inner_code, inner_line, after_inner}
+use Rattle.target_meaning.specs.Place.{items_at, list_at, place_line, inner_code, inner_line, after_inner}
 use Rattle.target_meaning.specs.Lines.{second_line}
 
 -- what follows the inner codes of a loop
@@ -38,11 +38,13 @@ pub record AtTest (code : List Instr) (test next : ℕ) (outer : List Outer) (n 
   pub front : List Outer
   pub level : Outer
   pub split : outer ≡ front ++ level ∷ []
+  pub begins : line ≡ place_line 1 code front level.index
+  pub inside : cond ≡ list_at code outer
   pub is : items_at 1 code outer n ≡ leaf.Test line cond test body ∷ items_at 1 code front next
   pub again : items_at 1 code (front ++ (record { index = level.index; inner = Body }) ∷ []) 0 ≡ leaf.do_all (second_line line cond) body ++ (leaf.do_all (suc line) cond ++ leaf.Test line cond test body ∷ items_at 1 code front next)
 
 -- what comes next at a place, as the code tells it
-abbrev pub Settled : List Instr → Next → List Outer → ℕ → Type 0
+abbrev pub Settled : List Instr → Standing → List Outer → ℕ → Type 0
 Settled code (Do i next) outer n = (slice_get (list_at code outer) n ≡ Some i.now) × (next ≡ suc n)
 Settled code (Test t next) outer n = AtTest code t next outer n
 Settled code Return outer n = items_at 1 code outer n ≡ []

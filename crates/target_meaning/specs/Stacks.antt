@@ -1,5 +1,5 @@
 -- The stacks that the code keeps, as those of the machine.
-use Rattle.std.specs.Prelude.{ℕ, suc, List, [], ◌∷◌, slice_get}
+use Rattle.std.specs.Prelude.{ℕ, suc, List, [], ◌∷◌, slice_get, decimal}
 use Rattle.std.specs.Prelude.{Option, Some, None}
 use Rattle.target_code.specs.declared.tree.Instr.{Instr, out-Instr, Instr-F}
 use Rattle.target_code.specs.declared.tree.Instr.TheOpen as Open
@@ -11,9 +11,9 @@ use Rattle.target_meaning.specs.declared.stack.Frame.{Frame}
 use Rattle.target_meaning.specs.declared.stack.Stack.{Stack}
 use Rattle.target_meaning.specs.declared.stack.Stack.TheVariants.{Run, End}
 
--- what stands for a procedure that a program does not have: it does nothing
+-- what stands for a procedure that a program does not have: it does nothing, and its name is `0`, which no procedure has
 abbrev pub no_proc : Proc
-no_proc = record { name = []; args = 0; regs = 0; code = record { list = [] }; ret = [] }
+no_proc = record { name = decimal 0; args = 0; regs = 0; code = record { list = [] }; ret = [] }
 
 -- a procedure, or that one
 abbrev pub proc_or : Option Proc → Proc

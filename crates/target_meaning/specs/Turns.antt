@@ -1,5 +1,5 @@
 -- What the code tells of a leaf's next step.
-use Rattle.std.specs.Prelude.{◌≡◌, ℕ, suc, List, [], ◌∷◌, slice_set}
+use Rattle.std.specs.Prelude.{◌≡◌, ℕ, suc, List, [], ◌∷◌, map, slice_set}
 use Rattle.std.specs.Prelude.{Option, Some, None}
 use Rattle.target_code.specs.declared.tree.Instr.{Instr, out-Instr, Instr-F}
 use Rattle.target_code.specs.declared.tree.Instr.TheOpen as Open
@@ -11,6 +11,8 @@ use Rattle.target_meaning.specs.declared.stack.Frames.{Frames}
 use Rattle.target_meaning.specs.declared.stack.Stack.{Stack}
 use Rattle.target_meaning.specs.declared.stack.Stack.TheVariants as stack
 use Rattle.target_meaning.specs.declared.frame.Then.{Then}
+use Rattle.target_meaning.specs.declared.frame.Part.{Part}
+use Rattle.target_meaning.specs.declared.frame.Starting.{Starting}
 use Rattle.target_meaning.specs.declared.frame.Todo.{Todo}
 use Rattle.target_meaning.specs.declared.frame.Todo.TheVariants.{Gone, Read, Write, Make, Cut, Split, Over, Bad}
 use Rattle.target_meaning.specs.Leaf as leaf
@@ -62,13 +64,21 @@ wait_of procs fs = record {
   right = to_by right_step (instr_at procs fs.top);
 }
 
+-- a part, as that of the machine
+abbrev pub part_of : Part → leaf.Part
+part_of p = record { block = p.block; span = p.span }
+
 -- the two children of a fork
-pub record IsSplit (procs : List Proc) (a : leaf.Act) (left right : Frames) (fs : Frames) : Type 0 where
+pub record IsSplit (procs : List Proc) (a : leaf.Act) (left right : Starting) (fs : Frames) : Type 0 where
   pub first : leaf.Child
   pub second : leaf.Child
   pub is : a ≡ leaf.Split first second (wait_of procs fs)
-  pub first_stack : first.stack ≡ run_of procs left
-  pub second_stack : second.stack ≡ run_of procs right
+  pub first_stack : first.stack ≡ run_of procs left.frames
+  pub second_stack : second.stack ≡ run_of procs right.frames
+  pub first_hands : first.hands ≡ map part_of left.hands.items
+  pub first_lends : first.lends ≡ map part_of left.lends.items
+  pub second_hands : second.hands ≡ map part_of right.hands.items
+  pub second_lends : second.lends ≡ map part_of right.lends.items
 
 -- what is to be done, with the frames as they are then
 abbrev pub Tells : List Proc → leaf.Act → Todo → Frames → Type 0

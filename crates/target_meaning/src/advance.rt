@@ -7,14 +7,14 @@ ghost use Rattle.target_meaning.specs.Turns.{PlainNext, Stays, TellsAll, run_of,
 
 use crate::frame::{Todo, instruct, test};
 use crate::registers::{put_words, words_in};
-use crate::settle::{Next, find, settle};
+use crate::settle::{Standing, find, settle};
 use crate::stack::{Frame, Frames, Stack};
 use sqlite_items::{Items, at};
 use std::alloc::{AllocError, Global};
 use target_code::{Instr, Proc};
 
 /// The code of a procedure.
-fn code_of(procs: &[Proc], number: usize) -> &[Instr]
+pub fn code_of(procs: &[Proc], number: usize) -> &[Instr]
     ensures { result.now ≡ code_at procs.now number }
 {
     match at(procs, number) {
@@ -110,12 +110,12 @@ pub fn advance(alloc: Global, procs: &[Proc], stack: &mut Stack) -> Result<Todo,
     };
     let code = code_of(procs, frames.top.proc);
     match settle(code, &mut frames.top.outer, &mut frames.top.at) {
-        Next::Do(instr, next) => instruct(alloc, procs, instr, next, frames),
-        Next::Test(register, next) => {
+        Standing::Do(instr, next) => instruct(alloc, procs, instr, next, frames),
+        Standing::Test(register, next) => {
             test(&mut frames.top, register, next);
             Ok(Todo::Gone)
         }
-        Next::Return => {
+        Standing::Return => {
             if let Some(words) = finish(alloc, procs, frames)? {
                 *stack = Stack::End(words);
             }

@@ -1,13 +1,13 @@
 //! The instructions, one function for each kind.
 
-ghost use Rattle.std.specs.Prelude.{◌≡◌, ◌++◌, ◌∷◌, [], ℕ, suc, List, MatchOption, IfOk, IsOk, OnErr, OnOk, slice_get};
+ghost use Rattle.std.specs.Prelude.{◌≡◌, ◌++◌, ◌∷◌, [], ℕ, suc, List, map, MatchOption, IfOk, IsOk, OnErr, OnOk, slice_get, slice_index};
 ghost use Rattle.target_meaning.specs.Leaf as leaf;
 ghost use Rattle.target_meaning.specs.Place.{items_at};
 ghost use Rattle.target_meaning.specs.Stacks.{callers_of, code_at, frame_of};
 ghost use Rattle.target_code.specs.declared.tree.Instr.{out-Instr};
 ghost use Rattle.target_code.specs.declared.tree.Proc.{Proc};
 ghost use Rattle.target_meaning.specs.Settled.{AtTest};
-ghost use Rattle.target_meaning.specs.Turns.{IsAt, PlainInstr, Tells, Stays, act_of, call_of, filled, moved, run_of, split_of, with_top};
+ghost use Rattle.target_meaning.specs.Turns.{IsAt, PlainInstr, Tells, Stays, act_of, call_of, filled, moved, part_of, run_of, split_of, with_top};
 
 use crate::answer::Reason;
 use crate::calc::calc;
@@ -18,10 +18,10 @@ use crate::stack::{Frame, Frames};
 use sqlite_items::{Items, at};
 use std::alloc::{AllocError, Global};
 use std::mem;
-use target_code::{Branch, Instr, Name, Proc};
+use target_code::{Branch, Hand, Instr, Name, Proc};
 
 /// Where a word goes: its register, and the index behind the instruction.
-#[derive(Clone, Copy, PartialEq, Eq, Debug)]
+#[derive(Clone, Copy)]
 pub struct Then {
     /// The register.
     pub to: u32,
@@ -29,8 +29,28 @@ pub struct Then {
     pub next: usize,
 }
 
+/// A part of what a leaf holds: a whole block with its name, or so many of its words from an offset on.
+#[derive(Clone, Copy)]
+pub struct Part {
+    /// The block's name.
+    pub block: u64,
+    /// The offset and the count.
+    pub span: Option<(u64, u64)>,
+}
+
+/// A child of a fork that starts.
+#[derive(Drop)]
+pub struct Starting {
+    /// Its frames.
+    pub frames: Frames,
+    /// The parts that it is handed.
+    pub hands: Vec<Part>,
+    /// The parts that it is lent.
+    pub lends: Vec<Part>,
+}
+
 /// What is left to do of a leaf's next step.
-#[derive(Debug, Drop)]
+#[derive(Drop)]
 pub enum Todo {
     /// Nothing: the step was one of registers and frames alone, and was made.
     Gone,
@@ -68,12 +88,12 @@ pub enum Todo {
         /// The index behind the instruction.
         next: usize,
     },
-    /// The fork, with the frames of its two children; the frames at hand wait at the `par`.
+    /// The fork, with what its two children start with; the frames at hand wait at the `par`.
     Split {
-        /// The left child's frames.
-        left: Frames,
-        /// The right child's frames.
-        right: Frames,
+        /// The left child.
+        left: Starting,
+        /// The right child.
+        right: Starting,
     },
     /// Nothing more: the leaf has ended.
     Over,
@@ -116,7 +136,7 @@ impl Frame {
 }
 
 /// The number of the first procedure of a name.
-fn number_of(procs: &[Proc], name: &Name) -> Option<usize>
+pub fn number_of(procs: &[Proc], name: &Name) -> Option<usize>
     ensures { MatchOption result (leaf.find procs.now name.now ≡ None)
         (λ n. leaf.find procs.now name.now ≡ slice_get procs.now n) }
 {
@@ -192,6 +212,34 @@ fn call(
     }
 }
 
+/// The part that a hand or a lend names.
+fn part_in(registers: &[u64], hand: &Hand) -> Part
+    ensures { result ≡ record {
+      block = slice_index registers.now hand.now.block;
+      span = leaf.span_of hand.now.span registers.now;
+    } }
+{
+    let block = word_in(registers, hand.block);
+    match hand.span {
+        Some((offset, count)) => Part {
+            block,
+            span: Some((word_in(registers, offset), word_in(registers, count))),
+        },
+        None => Part { block, span: None },
+    }
+}
+
+/// The parts that hands or lends name.
+fn parts_in(alloc: Global, registers: &[u64], hands: &[Hand]) -> Result<Vec<Part>, AllocError>
+    ensures { IfOk result (λ parts. leaf.parts_of hands.now registers.now ≡ map part_of parts.items) }
+{
+    let mut parts = Vec::new(alloc);
+    for hand in hands {
+        parts.push(part_in(registers, hand))?;
+    }
+    Ok(parts)
+}
+
 /// A fork: the frame at hand waits at it.
 fn split(
     alloc: Global,
@@ -211,13 +259,21 @@ fn split(
         return Ok(Todo::Bad(Reason::Block));
     };
     Ok(Todo::Split {
-        left: Frames {
-            top: first,
-            below: Vec::new(alloc),
+        left: Starting {
+            frames: Frames {
+                top: first,
+                below: Vec::new(alloc),
+            },
+            hands: parts_in(alloc, regs, left.hands.as_slice())?,
+            lends: parts_in(alloc, regs, left.lends.as_slice())?,
         },
-        right: Frames {
-            top: second,
-            below: Vec::new(alloc),
+        right: Starting {
+            frames: Frames {
+                top: second,
+                below: Vec::new(alloc),
+            },
+            hands: parts_in(alloc, regs, right.hands.as_slice())?,
+            lends: parts_in(alloc, regs, right.lends.as_slice())?,
         },
     })
 }

@@ -6,6 +6,7 @@ pub mod answer;
 pub mod calc;
 pub mod frame;
 pub mod laws;
+pub mod lines;
 pub mod memory;
 pub mod path;
 pub mod place;
@@ -13,10 +14,10 @@ pub mod registers;
 pub mod settle;
 pub mod stack;
 pub mod state;
-#[cfg(test)]
-mod tests;
 pub mod tree;
+pub mod view;
 
 pub use answer::{Reason, StepAnswer};
 pub use path::{Path, Side};
 pub use state::{State, step};
+pub use view::{LeafView, Next};

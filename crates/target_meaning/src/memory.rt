@@ -12,7 +12,7 @@ use std::alloc::{AllocError, Global};
 use std::collections::BTreeMap;
 
 /// The heap: the blocks made, with their words until they are freed.
-#[derive(Debug, Drop)]
+#[derive(Drop)]
 pub struct Memory {
     blocks: BTreeMap<u64, Option<Items<u64>>>,
     claimed: u64,
@@ -20,7 +20,7 @@ pub struct Memory {
 }
 
 /// How an `alloc` went.
-#[derive(Clone, Copy, PartialEq, Eq, Debug)]
+#[derive(Clone, Copy)]
 pub enum Claimed {
     /// The block was made.
     Made,

@@ -16,7 +16,7 @@ pub enum Side {
 }
 
 /// The way from the root of the fork tree to a leaf or a fork: a list of sides, none at the root.
-#[derive(Debug, Drop)]
+#[derive(Drop)]
 pub struct Path {
     sides: Items<Side>,
 }
@@ -46,6 +46,24 @@ impl Path {
         ensures err { OnErr result (self.new ≡ self.old) }
     {
         self.sides.push(side)
+    }
+
+    /// The same path.
+    pub fn copy(&self, alloc: Global) -> Result<Path, AllocError>
+        ensures { IfOk result (λ path. path ≡ self.now) }
+    {
+        Ok(Path {
+            sides: Items::from_slice(alloc, self.sides.as_slice())?,
+        })
+    }
+
+    /// The path of a child of the fork at this path.
+    pub fn child(&self, alloc: Global, side: Side) -> Result<Path, AllocError>
+        ensures { IfOk result (λ path. path ≡ self.now ++ side ∷ []) }
+    {
+        let mut path = self.copy(alloc)?;
+        path.push(side)?;
+        Ok(path)
     }
 
     /// The sides.

@@ -2,13 +2,13 @@
 
 ghost use Rattle.std.specs.Prelude.{◌≡◌, slice_get};
 ghost use Rattle.std.specs.Option.{option_copied};
-ghost use Rattle.target_meaning.specs.Place.{list_at};
+ghost use Rattle.target_meaning.specs.Place.{inner_of, list_at};
 
 use sqlite_items::at;
-use target_code::{Code, Instr};
+use target_code::Instr;
 
 /// Which inner code of an instruction.
-#[derive(Clone, Copy, PartialEq, Eq, Debug)]
+#[derive(Clone, Copy)]
 pub enum Inner {
     /// What an `if` does where its register is not 0.
     Yes,
@@ -21,12 +21,25 @@ pub enum Inner {
 }
 
 /// An instruction by its index, and one of its inner codes.
-#[derive(Clone, Copy, PartialEq, Eq, Debug)]
+#[derive(Clone, Copy)]
 pub struct Outer {
     /// The index of the instruction in its list.
     pub index: usize,
     /// The inner code.
     pub inner: Inner,
+}
+
+/// The list of an inner code, none where no instruction stands or it has no such code.
+pub fn inner_list<'a>(inner: Inner, instr: Option<&'a Instr>) -> &'a [Instr]
+    ensures { result.now ≡ inner_of inner (option_copied instr.entry) }
+{
+    match (inner, instr) {
+        (Inner::Yes, Some(Instr::If { yes, .. })) => yes.list.as_slice(),
+        (Inner::No, Some(Instr::If { no, .. })) => no.list.as_slice(),
+        (Inner::Cond, Some(Instr::While { cond, .. })) => cond.list.as_slice(),
+        (Inner::Body, Some(Instr::While { body, .. })) => body.list.as_slice(),
+        _ => &[],
+    }
 }
 
 /// The list that a place is in.
@@ -35,20 +48,7 @@ pub fn list_of<'a>(code: &'a [Instr], outer: &[Outer]) -> &'a [Instr]
 {
     let mut list = code;
     for level in outer {
-        list = match (level.inner, at(list, level.index)) {
-            (Inner::Yes, Some(Instr::If { yes, .. })) => yes.list.as_slice(),
-            (Inner::No, Some(Instr::If { no, .. })) => no.list.as_slice(),
-            (Inner::Cond, Some(Instr::While { cond, .. })) => cond.list.as_slice(),
-            (Inner::Body, Some(Instr::While { body, .. })) => body.list.as_slice(),
-            _ => &[],
-        };
+        list = inner_list(level.inner, at(list, level.index));
     }
     list
-}
-
-/// The instruction at a place, where there is one.
-pub fn fetch<'a>(code: &'a Code, outer: &[Outer], index: usize) -> Option<&'a Instr>
-    ensures { option_copied result ≡ slice_get (list_at code.now.list outer.now) index }
-{
-    at(list_of(code.list.as_slice(), outer), index)
 }

@@ -10,8 +10,8 @@ use sqlite_items::{Items, at};
 use target_code::Instr;
 
 /// What a frame does next.
-#[derive(Debug)]
-pub enum Next<'a> {
+#[derive(Clone, Copy)]
+pub enum Standing<'a> {
     /// This instruction, and the index behind it.
     Do(&'a Instr, usize),
     /// The test of a loop on this register, and the index behind the loop.
@@ -21,7 +21,7 @@ pub enum Next<'a> {
 }
 
 /// What follows an inner code.
-#[derive(Clone, Copy, PartialEq, Eq, Debug)]
+#[derive(Clone, Copy)]
 pub enum After {
     /// The loop's test on this register.
     Test(u32),
@@ -55,7 +55,7 @@ fn follows(inner: Inner, instr: &Instr) -> After
 }
 
 /// The innermost level and those around it.
-fn innermost(outer: &[Outer]) -> Option<(&[Outer], Outer)>
+pub fn innermost(outer: &[Outer]) -> Option<(&[Outer], Outer)>
     ensures { MatchOption result (outer.now ≡ []) (λ found. outer.now ≡ found.0.now ++ found.1 ∷ []) }
 {
     match outer {
@@ -77,16 +77,16 @@ pub fn turn(outer: &mut Items<Outer>, inner: Inner)
 }
 
 /// What comes next at a place, which moves out of inner codes that are through.
-pub fn settle<'a>(code: &'a [Instr], outer: &mut Items<Outer>, index: &mut usize) -> Next<'a>
+pub fn settle<'a>(code: &'a [Instr], outer: &mut Items<Outer>, index: &mut usize) -> Standing<'a>
     ensures kept { items_at 1 code.now outer.new index.new ≡ items_at 1 code.now outer.old index.old }
     ensures next { Settled code.now result outer.new index.new }
 {
     loop {
         if let Some((instr, next)) = find(code, outer.as_slice(), *index) {
-            return Next::Do(instr, next);
+            return Standing::Do(instr, next);
         }
         let Some((front, level)) = innermost(outer.as_slice()) else {
-            return Next::Return;
+            return Standing::Return;
         };
         let Some((instr, next)) = find(code, front, level.index) else {
             outer.pop();
@@ -94,7 +94,7 @@ pub fn settle<'a>(code: &'a [Instr], outer: &mut Items<Outer>, index: &mut usize
             continue;
         };
         match follows(level.inner, instr) {
-            After::Test(test) => return Next::Test(test, next),
+            After::Test(test) => return Standing::Test(test, next),
             After::Again => {
                 turn(outer, Inner::Cond);
                 *index = 0;

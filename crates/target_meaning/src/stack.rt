@@ -4,7 +4,7 @@ use crate::place::Outer;
 use sqlite_items::Items;
 
 /// A procedure under way: its number, a place in its code, and its registers.
-#[derive(Debug, Drop)]
+#[derive(Drop)]
 pub struct Frame {
     /// The procedure's number in the program, from 0.
     pub proc: usize,
@@ -17,7 +17,7 @@ pub struct Frame {
 }
 
 /// The innermost frame, and those that wait at a call, the outermost first.
-#[derive(Debug, Drop)]
+#[derive(Drop)]
 pub struct Frames {
     /// The innermost frame.
     pub top: Frame,
@@ -26,7 +26,7 @@ pub struct Frames {
 }
 
 /// The stack of a leaf: its frames, or its results once it has ended.
-#[derive(Debug, Drop)]
+#[derive(Drop)]
 pub enum Stack {
     /// The leaf is under way.
     Run(Frames),

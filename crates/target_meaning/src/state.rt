@@ -1,6 +1,6 @@
 //! A state of the machine, and its step.
 
-ghost use Rattle.std.specs.Prelude.{◌≡◌, ◌≤◌, List, MatchOption, IfOk, IsOk, OnErr};
+ghost use Rattle.std.specs.Prelude.{◌≡◌, ◌≤◌, List, [], MatchOption, IfOk, IsOk, OnErr};
 ghost use Rattle.target_code.specs.declared.tree.Proc.{Proc};
 ghost use Rattle.target_meaning.specs.Leaf.{begin};
 ghost use Rattle.target_meaning.specs.Machine.{claims, words_of};
@@ -8,19 +8,21 @@ ghost use Rattle.target_meaning.specs.Stacks.{frame_of, proc_at};
 ghost use Rattle.target_meaning.specs.States.{first_state, root_results, state_of, step_of};
 ghost use Rattle.target_meaning.specs.Trees.{leaf_at};
 ghost use Rattle.target_meaning.specs.Turns.{PlainNext};
+ghost use Rattle.target_meaning.specs.Views.{leaves_of};
 
 use crate::answer::StepAnswer;
 use crate::memory::Memory;
-use crate::path::Side;
+use crate::path::{Path, Side};
 use crate::registers::first_words;
 use crate::stack::{Frame, Frames, Stack};
 use crate::tree::{Tree, walk};
+use crate::view::{LeafView, add_leaves};
 use sqlite_items::{Items, at};
 use std::alloc::{AllocError, Global};
 use target_code::Program;
 
 /// A state of the machine: the fork tree, the heap with its capacity and claimed words, and whether it is full.
-#[derive(Debug, Drop)]
+#[derive(Drop)]
 pub struct State {
     tree: Tree,
     memory: Memory,
@@ -67,6 +69,18 @@ impl State {
             Tree::Leaf(Stack::End(words)) => Some(words.as_slice()),
             _ => None,
         }
+    }
+
+    /// What is seen of the leaves that have not ended, left to right, in a state of this program.
+    pub fn leaves(&self, alloc: Global, program: &Program) -> Result<Vec<LeafView>, AllocError>
+        ensures { IfOk result (λ views. views.items ≡ leaves_of program.now.procs
+            (state_of program.now.procs self.now).heap [] (state_of program.now.procs self.now).tree) }
+    {
+        let mut views = Vec::new(alloc);
+        let procs = program.procs.as_slice();
+        let root = Path::root(alloc);
+        add_leaves(&self.tree, alloc, procs, &self.memory, &root, &mut views)?;
+        Ok(views)
     }
 
     /// The words of a block; `None` exactly where the name is not live.

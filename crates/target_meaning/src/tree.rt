@@ -22,7 +22,7 @@ use std::mem;
 use target_code::Proc;
 
 /// The fork tree. A fork keeps the frames that wait for its branches.
-#[derive(Debug, Drop)]
+#[derive(Drop)]
 pub enum Tree {
     /// A leaf.
     Leaf(Stack),
@@ -141,7 +141,7 @@ fn step_leaf(
             Err(reason) => Ok(StepAnswer::Stuck(reason)),
         },
         Todo::Split { left, right } => {
-            fork(alloc, tree, left, right)?;
+            fork(alloc, tree, left.frames, right.frames)?;
             Ok(StepAnswer::Moved)
         }
         Todo::Over => Ok(StepAnswer::NoSuchLeaf),

@@ -16,7 +16,8 @@ use Rattle.target_code.specs.declared.tree.Proc.{Proc}
 use Rattle.target_code.specs.declared.tree.Program.{Program}
 use Rattle.target_lines.specs.declared.line.Line.{Line}
 use Rattle.target_lines.specs.declared.line.Phrase.TheVariants as phrase
-use Rattle.target_lines.specs.Texts.{indent, instr_text, proc_header, ret_text}
+use Rattle.target_code.specs.Texts.{indent}
+use Rattle.target_lines.specs.Texts.{instr_text, proc_header, ret_text}
 use Rattle.target_lines.specs.Programs.{line, Lines, instr_step, code_step, instr_lines, code_lines, proc_lines, items_lines, is_flat, line_feed, lines_text, lends, program_text}
 use Rattle.target_text.specs.Parts.{code_text, instr_lines_text, if_text, while_text, proc_text, inputs_text, results_text, procs_text}
 use Rattle.target_text.proofs.CodeLines.{each_at, layer, lines_out, flat_lines}

@@ -4,8 +4,6 @@
 mod laws;
 mod printing;
 mod reader;
-#[cfg(test)]
-mod reader_tests;
 mod refusal;
 
 pub use printing::print_program;

@@ -1,12 +1,13 @@
 //! Programs as text.
 
 ghost use Rattle.std.specs.Prelude.{◌≡◌, ◌+◌, ◌++◌, ◌∷◌, [], OnOk, IfOk};
-ghost use Rattle.target_lines.specs.Texts.{indent, instr_text, input_text, result_text, proc_header, register_text, ret_text, sepref_text};
+ghost use Rattle.target_code.specs.Texts.{indent};
+ghost use Rattle.target_lines.specs.Texts.{instr_text, input_text, result_text, proc_header, register_text, ret_text, sepref_text};
 ghost use Rattle.target_lines.specs.Programs as spec;
 ghost use Rattle.target_text.specs.Parts as parts;
 
 use std::alloc::{AllocError, Global};
-use target_code::{Code, InParam, Instr, Proc, Program, Rep};
+use target_code::{Code, InParam, Instr, Proc, Program, Rep, push_indent};
 use target_lines::writing;
 
 /// The text of a program. It has `sepref 2` on its first line, and lends on each line of a `par`, where some branch has
@@ -74,7 +75,7 @@ fn feed(out: &mut Vec<u8>) -> Result<(), AllocError>
 fn words(out: &mut Vec<u8>, level: u64, words: &[u8]) -> Result<(), AllocError>
     ensures { OnOk result (out.new.items ≡ out.old.items ++ ((indent level ++ words.now) ++ 10 ∷ [])) }
 {
-    writing::indent(out, level)?;
+    push_indent(out, level)?;
     out.extend_from_slice(words)?;
     feed(out)
 }
@@ -83,7 +84,7 @@ fn words(out: &mut Vec<u8>, level: u64, words: &[u8]) -> Result<(), AllocError>
 fn test_line(out: &mut Vec<u8>, level: u64, word: &[u8], register: u32) -> Result<(), AllocError>
     ensures { OnOk result (out.new.items ≡ out.old.items ++ ((indent level ++ (word.now ++ register_text register)) ++ 10 ∷ [])) }
 {
-    writing::indent(out, level)?;
+    push_indent(out, level)?;
     out.extend_from_slice(word)?;
     writing::register(out, register)?;
     feed(out)
@@ -93,7 +94,7 @@ fn test_line(out: &mut Vec<u8>, level: u64, word: &[u8], register: u32) -> Resul
 fn plain(out: &mut Vec<u8>, lends: bool, level: u64, instr: &Instr) -> Result<(), AllocError>
     ensures { OnOk result (out.new.items ≡ out.old.items ++ ((indent level ++ instr_text lends instr.now) ++ 10 ∷ [])) }
 {
-    writing::indent(out, level)?;
+    push_indent(out, level)?;
     writing::instr(out, lends, instr)?;
     feed(out)
 }
@@ -137,7 +138,7 @@ fn header(out: &mut Vec<u8>, proc: &Proc) -> Result<(), AllocError>
 fn ret(out: &mut Vec<u8>, list: &[u32]) -> Result<(), AllocError>
     ensures { OnOk result (out.new.items ≡ out.old.items ++ ((indent 1 ++ ret_text list.now) ++ 10 ∷ [])) }
 {
-    writing::indent(out, 1)?;
+    push_indent(out, 1)?;
     writing::ret(out, list)?;
     feed(out)
 }

@@ -14,7 +14,7 @@ use Rattle.target_meaning.specs.Piece.{IsWhole}
 use Rattle.triple_logic.specs.Sample.{HasValue}
 use Rattle.target_meaning.proofs.Shares.{add-nil, plus-comm, plus-assoc, fits_left}
 use Rattle.target_meaning.proofs.Lists.{get-set_same, get-set_other, get-replicate, get_past}
-use Rattle.triple_logic.proofs.Sample.{value_of, no_wrap}
+use Rattle.triple_logic.proofs.Sample.{value_of, no_wrap, stored_whole}
 use Rattle.target_meaning.proofs.Races.{cut_alone}
 use Rattle.triple_logic.proofs.Rules.{place_bound}
 use Rattle.triple_logic.specs.Blocks.{held_word, block_share, block, Reads, Apart}
@@ -79,9 +79,9 @@ module _ (b : ℕ) (ws : List ℕ) (k : Piece) (ap_k : Apart b k) where
       (eqb_tells m i)
 
   pub own_set : (i v : ℕ) → i < length ws → stored (plus (block b ws) k) b i v ≡ plus (block b (slice_set ws i v)) k
-  own_set i v lt = fun_ext (λ c. fun_ext (λ j. at c j (eqb c b) refl))
+  own_set i v lt = stored_whole (plus (block b ws) k) b i v (own_whole i lt) ∙ fun_ext (λ c. fun_ext (λ j. at c j (eqb c b) refl))
     where
-      at : (c j : ℕ) (e : Bool) → eqb c b ≡ e → stored (plus (block b ws) k) b i v c j ≡ plus (block b (slice_set ws i v)) k c j
+      at : (c j : ℕ) (e : Bool) → eqb c b ≡ e → cond (eqb c b && eqb j (suc i)) (Some_of v (whole - 1)) (plus (block b ws) k c j) ≡ plus (block b (slice_set ws i v)) k c j
       at c j true e =
           let here : c ≡ b = eqb-true c b e in
           ap (λ y. cond (y && eqb j (suc i)) (Some_of v (whole - 1)) (plus (block b ws) k c j)) e ∙

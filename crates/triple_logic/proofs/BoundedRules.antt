@@ -43,13 +43,13 @@ module _ (T : List Proc) (halt : Halt) (Q : List ℕ → Piece → Type 0) where
   assume_bounded zero f p s w = λ h hs. w h hs h hs
   assume_bounded (suc n) f p s w = λ h hs. w h hs h hs
 
-  -- a weaker end
-  pub weaker_bounded : (R : List ℕ → Piece → Type 0) → ((vs : List ℕ) (p : Piece) → Q vs p → R vs p) → (n f : ℕ) (t : Tree Piece) → Bounded T halt Q n f t → Bounded T halt R n f t
+  -- a weaker end, which may rest on a heap that has what is then held
+  pub weaker_bounded : (R : List ℕ → Piece → Type 0) → ((vs : List ℕ) (p : Piece) (h : Heap) → Holds p h → Q vs p → R vs p) → (n f : ℕ) (t : Tree Piece) → Bounded T halt Q n f t → Bounded T halt R n f t
   unfolding Bounded
-  weaker_bounded R imp zero f (Leaf p s) w = λ h hs. root_map (halt s) _ _ _ _ (λ vs m. imp vs p m) (λ g. g) (w h hs)
+  weaker_bounded R imp zero f (Leaf p s) w = λ h hs. root_map (halt s) _ _ _ _ (λ vs m. imp vs p h hs m) (λ g. g) (w h hs)
   weaker_bounded R imp zero f (Fork p v l r) w = w
   weaker_bounded R imp (suc n) f (Leaf p s) w = λ h hs.
-      root_map (halt s) _ _ _ _ (λ vs m. imp vs p m)
+      root_map (halt s) _ _ _ _ (λ vs m. imp vs p h hs m)
       (λ g. (g.0, steps_mapped T f (Leaf p s) h (Bounded T halt Q n f) (Bounded T halt R n f) (λ u m. weaker_bounded R imp n f u m) g.1)) (w h hs)
   weaker_bounded R imp (suc n) f (Fork p v l r) w = λ h hs.
       let g = w h hs in

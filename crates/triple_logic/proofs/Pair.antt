@@ -23,10 +23,11 @@ use Rattle.triple_logic.proofs.Parts.{in_word, hand_given, hand_kept}
 use Rattle.triple_logic.proofs.Sample.{set_law}
 
 -- the part that a span of a slice names
-abbrev span_part : ℕ → ℕ → ℕ → Part
+abbrev pub span_part : ℕ → ℕ → ℕ → Part
 span_part b off n = record { block = b; span = Some (off, n) }
 
-inside_slice : (xs : List ℕ) (b off : ℕ) (p : Piece) → IsSlice xs b off p → Inside (span_part b off (length xs)) p
+-- a slice lies in that part
+pub inside_slice : (xs : List ℕ) (b off : ℕ) (p : Piece) → IsSlice xs b off p → Inside (span_part b off (length xs)) p
 inside_slice xs b off p s c j e =
     ⊎_elim
     (λ w. s.others c j (λ z. let k : true ≡ false = sym (eq-eqb c b z) ∙ w in let o : ⊥ = cc k in o))

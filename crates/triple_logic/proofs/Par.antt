@@ -38,12 +38,12 @@ module _ (T : List Proc) (halt : Halt) (Q : List ℕ → Piece → Type 0) where
       let g = sf h hs in
       (g.0, steps_map f (Fork p w l r) h (Safe T halt Q (suc n) f) (Safe T halt Q n f) (λ u m. fewer n f u m) g.1)
 
-  -- a weaker end
-  pub weaker : (R : List ℕ → Piece → Type 0) → ((vs : List ℕ) (p : Piece) → Q vs p → R vs p) → (n f : ℕ) (t : Tree Piece) → Safe T halt Q n f t → Safe T halt R n f t
+  -- a weaker end, which may rest on a heap that has what is then held
+  pub weaker : (R : List ℕ → Piece → Type 0) → ((vs : List ℕ) (p : Piece) (h : Heap) → Holds p h → Q vs p → R vs p) → (n f : ℕ) (t : Tree Piece) → Safe T halt Q n f t → Safe T halt R n f t
   unfolding Safe
   weaker R imp zero f t s = tt
   weaker R imp (suc n) f (Leaf p s) sf = λ h hs.
-      root_map (halt s) _ _ _ _ (λ vs m. imp vs p m)
+      root_map (halt s) _ _ _ _ (λ vs m. imp vs p h hs m)
       (λ g. (g.0, steps_map f (Leaf p s) h (Safe T halt Q n f) (Safe T halt R n f) (λ u m. weaker R imp n f u m) g.1))
       (sf h hs)
   weaker R imp (suc n) f (Fork p w l r) sf = λ h hs.

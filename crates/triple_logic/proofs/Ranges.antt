@@ -12,6 +12,7 @@ use Rattle.target_meaning.proofs.Shares.{add-nil}
 use Rattle.target_meaning.proofs.Lists.{get-set_same, get-set_other}
 use Rattle.triple_logic.proofs.Rules.{place_bound}
 use Rattle.triple_logic.specs.Blocks.{held_word, block_share, block, range_share, range, name_share, name_of}
+use Rattle.triple_logic.proofs.Sample.{stored_whole}
 use Rattle.triple_logic.proofs.Blocks.{get_some}
 
 range_word : (off : ℕ) (xs : List ℕ) (i : ℕ) → range_share off xs (suc (off + i)) ≡ held_word (slice_get xs i)
@@ -40,9 +41,9 @@ module _ (b off : ℕ) (xs : List ℕ) where
       (eqb_tells m (off + i))
 
   pub range_set : (i v : ℕ) → i < length xs → stored (range b off xs) b (off + i) v ≡ range b off (slice_set xs i v)
-  range_set i v lt = fun_ext (λ c. fun_ext (λ j. at c j (eqb c b) refl))
+  range_set i v lt = stored_whole (range b off xs) b (off + i) v (range_whole i lt) ∙ fun_ext (λ c. fun_ext (λ j. at c j (eqb c b) refl))
     where
-      at : (c j : ℕ) (e : Bool) → eqb c b ≡ e → stored (range b off xs) b (off + i) v c j ≡ range b off (slice_set xs i v) c j
+      at : (c j : ℕ) (e : Bool) → eqb c b ≡ e → cond (eqb c b && eqb j (suc (off + i))) (Some_of v (whole - 1)) (range b off xs c j) ≡ range b off (slice_set xs i v) c j
       at c j true e =
           ap (λ y. cond (y && eqb j (suc (off + i))) (Some_of v (whole - 1)) (cond y (range_share off xs j) Nil)) e ∙ set_share i v j lt ∙
           sym (ap (λ y. cond y (range_share off (slice_set xs i v) j) Nil) e)

@@ -22,7 +22,8 @@ use Rattle.triple_logic.specs.Reached.{RootMeets, Good, IsReached}
 use Rattle.triple_logic.proofs.Par.{fine_of, steps_of}
 use Rattle.triple_logic.proofs.Bounded.{Lower, bounded_fine, bounded_steps}
 
-all_owned : (T : List Proc) (f : ℕ) (t : Tree Piece) → AllFine T f t → SomeUnowned T f t → ⊥
+-- leaves that are fine are owned
+pub all_owned : (T : List Proc) (f : ℕ) (t : Tree Piece) → AllFine T f t → SomeUnowned T f t → ⊥
 all_owned T f (Leaf p s) w u = fine_owned f (act T s) p w u
 all_owned T f (Fork p v l r) w u = ⊎_elim (all_owned T (suc f) l w.0) (all_owned T (suc f) r w.1) u
 

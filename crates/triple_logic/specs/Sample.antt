@@ -1,23 +1,14 @@
 -- Small procedures, and what they do.
 use Rattle.std.specs.Prelude.{◌≡◌, ℕ, suc, ◌+◌, ◌^◌, ◌<◌, ◌≤◌, List, [], ◌∷◌, length, codes, slice_index, slice_set, ◌≢◌}
-use Rattle.target_code.specs.declared.tree.Instr.TheVariants.{Alloc, Calc, Const, Load, Store}
+use Rattle.target_code.specs.declared.tree.Instr.TheVariants.{Alloc, Calc, Const, Store}
 use Rattle.target_code.specs.declared.tree.Calc.TheVariants.{Add}
 use Rattle.target_code.specs.declared.tree.Proc.{Proc}
 use Rattle.target_meaning.specs.Leaf.{Run, begin}
+pub use Rattle.target_meaning.specs.Samples.{array_get}
 use Rattle.target_meaning.specs.Machine.{Leaf}
 use Rattle.target_meaning.specs.Piece.{Share, Nil, Some_of, Clash, Piece}
 use Rattle.target_meaning.specs.Piece.{IsWhole}
 use Rattle.triple_logic.specs.Safe.{at_end, Safe}
-
--- the element of an array at an index: block, offset, length, index
-abbrev pub array_get : Proc
-array_get = record {
-  name = codes "array_get";
-  args = 4;
-  regs = 6;
-  code = record { list = Calc 4 Add 1 3 ∷ Load 5 0 4 ∷ [] };
-  ret = 5 ∷ [];
-}
 
 -- an array with the element at an index replaced: block, offset, length, index, element
 abbrev pub array_set : Proc

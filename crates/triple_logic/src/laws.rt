@@ -11,6 +11,7 @@ ghost use Rattle.target_meaning.specs.Lines.{second_line};
 ghost use Rattle.target_meaning.specs.Machine.{Heap, IsSized, Leaf, Room, Tree, nothing};
 ghost use Rattle.target_meaning.specs.Piece.{Covers, Holds, Share, half, none, rest, IsWhole, Nil, Piece, Some_of, plus, whole};
 ghost use Rattle.target_meaning.specs.Runs.{AtLeaf, IsShallow, OnMoved, Race, Schedule, reach};
+ghost use Rattle.target_meaning.specs.Unowned.{IsStuckBy, IsUnowned, SomeUnowned};
 ghost use Rattle.triple_logic.specs.Blocks.{Apart, block, name_of, range};
 ghost use Rattle.triple_logic.specs.Bounded.{Bounded, while_bound};
 ghost use Rattle.triple_logic.specs.Claims.{cost};
@@ -36,10 +37,10 @@ pub fn fewer_steps<A: Post>()
         Safe T halt (A.meets a) n f t → Safe T halt (A.meets a) m f t }
 {}
 
-/// What is safe with an end is safe with a weaker one.
+/// What is safe with an end is safe with a weaker one, which may rest on a heap that has what is then held.
 pub fn weaker_end<A: Post, B: Post>()
     ensures { (a : A) (b : B) (T : List Proc) (halt : Halt) (n f : ℕ) (t : Tree Piece) →
-        ((vs : List ℕ) (p : Piece) → A.meets a vs p → B.meets b vs p) →
+        ((vs : List ℕ) (p : Piece) (h : Heap) → Holds p h → A.meets a vs p → B.meets b vs p) →
         Safe T halt (A.meets a) n f t → Safe T halt (B.meets b) n f t }
 {}
 
@@ -239,10 +240,10 @@ pub fn bounded_runs<A: Post>()
         OnMoved (reach nothing room T es (Leaf tt s) h) (λ u g. length es ≤ b) }
 {}
 
-/// A bounded run with an end has the same bound with a weaker one.
+/// A bounded run with an end has the same bound with a weaker one, which may rest on a heap that has what is then held.
 pub fn bounded_weaker_end<A: Post, B: Post>()
     ensures { (a : A) (b : B) (T : List Proc) (halt : Halt) (n f : ℕ) (t : Tree Piece) →
-        ((vs : List ℕ) (p : Piece) → A.meets a vs p → B.meets b vs p) →
+        ((vs : List ℕ) (p : Piece) (h : Heap) → Holds p h → A.meets a vs p → B.meets b vs p) →
         Bounded T halt (A.meets a) n f t → Bounded T halt (B.meets b) n f t }
 {}
 
@@ -370,9 +371,21 @@ pub fn two_hands()
     ensures calm { CalmLaw }
 {}
 
-/// A store to a word that is not held is not safe, whatever its end.
-pub fn unheld_store_is_not_safe<A: Post>()
-    ensures { (a : A) (T : List Proc) →
+/// What is not allowed is not safe for one step, whatever its end: a root that is not over and is next to store to a word
+/// that it does not hold whole, one that is unowned in any way or stuck by what it holds, and a tree with some leaf that is
+/// unowned. Some heap has to have what is held; where none has, everything is safe. So `array_set` on a block of which
+/// nothing is held is not safe.
+pub fn unowned_is_not_safe<A: Post>()
+    ensures store { (a : A) (T : List Proc) (halt : Halt) (f : ℕ) (p : Piece) (s : Stack) (h : Heap) (b i v : ℕ) (u : Stack) →
+        Holds p h → halt s ≡ None → act T s ≡ leaf.Write b i v u → (IsWhole (p b (suc i)) → ⊥) →
+        Safe T halt (A.meets a) 1 f (Leaf p s) → ⊥ }
+    ensures unowned { (a : A) (T : List Proc) (halt : Halt) (f : ℕ) (p : Piece) (s : Stack) (h : Heap) → Holds p h →
+        halt s ≡ None → IsUnowned f (act T s) p → Safe T halt (A.meets a) 1 f (Leaf p s) → ⊥ }
+    ensures stuck { (a : A) (T : List Proc) (halt : Halt) (f : ℕ) (p : Piece) (s : Stack) (h : Heap) → Holds p h →
+        halt s ≡ None → IsStuckBy (act T s) p → Safe T halt (A.meets a) 1 f (Leaf p s) → ⊥ }
+    ensures tree { (a : A) (T : List Proc) (f : ℕ) (t : Tree Piece) (h : Heap) → Holds (total t) h → SomeUnowned T f t →
+        Safe T at_end (A.meets a) 1 f t → ⊥ }
+    ensures set { (a : A) (T : List Proc) →
         Safe T at_end (A.meets a) 2 0 (Leaf none (leaf.Run (begin array_set (1 ∷ 0 ∷ 1 ∷ 0 ∷ 5 ∷ [])) [])) → ⊥ }
 {}
 

@@ -2,7 +2,7 @@
 
 ghost use Rattle.std.specs.Prelude.{◌≡◌, IfOk, []};
 ghost use Rattle.target_code.specs.declared.tree.Instr.TheVariants as instr;
-ghost use Rattle.triple_logic.specs.Copy.{lib_copy};
+ghost use Rattle.triple_logic.specs.Copy.{copy_test, copy_turn, lib_copy};
 ghost use Rattle.triple_logic.specs.Text.{code, every_word, no_else, no_then};
 
 use sqlite_items::Items;
@@ -20,9 +20,12 @@ macro_rules! code {
     };
 }
 
-/// One instruction of `code!`: its word and its registers, results first.
+/// One instruction of `code!`: its word and its registers, results first; or `instr` and a variable that has an instruction.
+/// Codes in codes take long to prove, so a loop or an `if` with code of any length is made by a function of its own and put
+/// in so.
 #[macro_export]
 macro_rules! instruction {
+    (in $alloc:ident; instr $made:ident) => { $made };
     (in $alloc:ident; const $to:literal $value:literal) => { target_code::Instr::Const { to: $to, value: $value } };
     (in $alloc:ident; mov $to:literal $from:literal) => { target_code::Instr::Mov { to: $to, from: $from } };
     (in $alloc:ident; load $to:literal $block:literal $index:literal) => { target_code::Instr::Load { to: $to, block: $block, index: $index } };
@@ -131,19 +134,48 @@ pub fn procedure(
     })
 }
 
+/// Whether a word is left to copy.
+fn copy_test(alloc: Global) -> Result<Code, AllocError>
+    ensures { IfOk result (λ c. c ≡ (record { list = code copy_test })) }
+{
+    Ok(code!(in alloc; [lt 7 6 2]))
+}
+
+/// One word is copied.
+fn copy_turn(alloc: Global) -> Result<Code, AllocError>
+    ensures { IfOk result (λ c. c ≡ (record { list = code copy_turn })) }
+{
+    Ok(code!(in alloc;
+        [add 8 1 6]
+        [load 9 0 8]
+        [store 4 6 9]
+        [add 6 6 5]
+    ))
+}
+
+/// Word by word is copied.
+fn copy_words(alloc: Global) -> Result<Instr, AllocError>
+    ensures { IfOk result (λ i. i ≡ instr.While (record { list = code copy_test }) 7 (record { list = code copy_turn })) }
+{
+    let test = copy_test(alloc)?;
+    match copy_turn(alloc) {
+        Ok(turn) => Ok(while_do(test, 7, turn)),
+        Err(error) => {
+            drop(test);
+            Err(error)
+        }
+    }
+}
+
 /// The procedure `lib_copy`.
 pub fn lib_copy(alloc: Global) -> Result<Proc, AllocError>
     ensures { IfOk result (λ p. p ≡ lib_copy) }
 {
+    let words = copy_words(alloc)?;
     let code = code!(in alloc;
         [alloc 4 3]
         [const 5 1]
-        [while { [lt 7 6 2] } do 7 {
-            [add 8 1 6]
-            [load 9 0 8]
-            [store 4 6 9]
-            [add 6 6 5]
-        }]
+        [instr words]
     );
     procedure(alloc, b"lib_copy", 4, 10, code, &[4])
 }

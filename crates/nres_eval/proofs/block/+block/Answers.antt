@@ -5,7 +5,7 @@ use Rattle.nres_core.specs.Runs.{Fell, Gave, Late, first_path}
 use Rattle.nres_core.specs.declared.value.Value.TheVariants as v
 use Rattle.nres_meaning.specs.Meaning as meaning
 use Rattle.nres_meaning.specs.Meaning.{blk_runs, bound, head_of, tail_of}
-use Rattle.nres_meaning.specs.Words.{op_named}
+use Rattle.nres_meaning.specs.WordOperations.{op_named}
 use Rattle.nres_eval.specs.Bodies.{each_runs, holds_runs, part_runs, turns_runs}
 use Rattle.nres_core.specs.declared.tree.Block.{size-Block}
 use Rattle.nres_eval.specs.Calls.{calls_of}

@@ -2,7 +2,7 @@ use Rattle.std.proofs.Common.{◌≡◌, drop}
 use Rattle.nres_core.specs.Mirror.{all_exps}
 use Rattle.nres_core.specs.Runs.{first_path}
 use Rattle.nres_meaning.specs.Meaning.{exps_runs}
-use Rattle.nres_meaning.specs.Words.{op_named}
+use Rattle.nres_meaning.specs.WordOperations.{op_named}
 use Rattle.nres_eval.specs.Ends.{onto}
 use Rattle.nres_eval.proofs.expr.+expr.Given as goal
 

@@ -3,7 +3,7 @@ use Rattle.nres_core.specs.Mirror.{exp_of}
 use Rattle.nres_core.specs.Ops.{at_line}
 use Rattle.nres_core.specs.Runs.{first_path}
 use Rattle.nres_meaning.specs.Meaning.{exp_runs, parts_out, value_of}
-use Rattle.nres_meaning.specs.Words.{op_named}
+use Rattle.nres_meaning.specs.WordOperations.{op_named}
 use Rattle.nres_eval.proofs.Paths.{first_bind, next, stop, told}
 use Rattle.nres_eval.proofs.parts.halves.Goals as goal
 

@@ -1,7 +1,7 @@
 use Rattle.nres_core.specs.Mirror.{exp_of}
 use Rattle.nres_core.specs.Ops.{truth_runs}
 use Rattle.nres_meaning.specs.Meaning.{exp_runs}
-use Rattle.nres_meaning.specs.Words.{op_named}
+use Rattle.nres_meaning.specs.WordOperations.{op_named}
 use Rattle.nres_eval.proofs.Paths.{first_bind, next, stop, told}
 use Rattle.nres_eval.proofs.parts.holds.Goals as goal
 

@@ -3,7 +3,7 @@ use Rattle.nres_core.specs.Mirror.{exp_of}
 use Rattle.nres_core.specs.Runs.{◌>>=◌, first_path}
 use Rattle.nres_core.specs.declared.tree.Expr.{Expr}
 use Rattle.nres_meaning.specs.Meaning.{exp_runs}
-use Rattle.nres_meaning.specs.Words.{op_named}
+use Rattle.nres_meaning.specs.WordOperations.{op_named}
 use Rattle.nres_eval.proofs.Between.{between_path}
 use Rattle.nres_eval.proofs.Paths.{next, stop, told}
 use Rattle.nres_eval.proofs.parts.least_between.Goals as goal

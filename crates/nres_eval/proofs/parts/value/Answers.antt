@@ -2,7 +2,7 @@ use Rattle.std.proofs.Common.{ap, ◌∙◌, sym, ◌∷◌, []}
 use Rattle.nres_core.specs.Mirror.{exp_of}
 use Rattle.nres_core.specs.Runs.{Done, Gave}
 use Rattle.nres_meaning.specs.Meaning.{exp_runs}
-use Rattle.nres_meaning.specs.Words.{op_named}
+use Rattle.nres_meaning.specs.WordOperations.{op_named}
 use Rattle.nres_eval.proofs.Paths.{first_bind, next, stop}
 use Rattle.nres_eval.proofs.parts.value.Goals as goal
 

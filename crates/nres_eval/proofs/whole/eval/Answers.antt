@@ -2,7 +2,7 @@ use Rattle.std.proofs.Common.{sym, ◌∙◌}
 use Rattle.nres_core.specs.Mirror.{blk_of, named_params}
 use Rattle.nres_core.specs.Runs.{first_path}
 use Rattle.nres_meaning.specs.Meaning.{blk_runs, bound}
-use Rattle.nres_meaning.specs.Words.{op_named}
+use Rattle.nres_meaning.specs.WordOperations.{op_named}
 use Rattle.nres_eval.specs.Calls.{calls_of}
 use Rattle.nres_eval.proofs.Paths.{told}
 use Rattle.nres_eval.proofs.whole.eval.Goals as goal

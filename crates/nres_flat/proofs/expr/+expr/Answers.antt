@@ -1,7 +1,7 @@
 use Rattle.std.proofs.Common.{length, refl, ap, ◌∙◌}
 use Rattle.nres_core.specs.FlatTree.{binds_of}
-use Rattle.nres_core.specs.Flatten.{flat_exp, arg_of}
-use Rattle.nres_core.specs.Mirror.{id_exp_of}
+use Rattle.nres_rules.specs.Flatten.{flat_exp, flat_exps, arg_of}
+use Rattle.nres_core.specs.Mirror.{id_exp_of, all_id_exps}
 use Rattle.nres_core.specs.Tree as trees
 use Rattle.nres_core.proofs.Mirrored.{id_mirrored}
 use Rattle.nres_flat.specs.Adding.{named}
@@ -46,11 +46,11 @@ expr-returns-in_ok-arg-in-Not t c =
     let l = given c.in-Not.arg s _ _ c.get-in-Not.ensures c.in_ok-arg-in-Not.ensures in
     negated_ok c.in-Not.place (named c.args.name) s c.in-Not.arg c.args.tree.now (binds_of c.calculate-in-Not.new.binds) c.calculate-in-Not.new.names c.in-Not.is l c.calculate-in-Not.result c.calculate-in-Not.ensures
 
-pub expr-returns-in_ok-push-in-Apply : goal.expr-returns-in_ok-push-in-Apply
-expr-returns-in_ok-push-in-Apply t c =
-    operated c.in-Apply.place c.in-Apply.word c.in-Apply.args c.as_slice.result.now c.in-Apply.made (named c.args.name) c.args.scope.now c.args.tree.now c.exprs.new.binds c.push.new.self
-    c.in_ok-args-in-Apply.args c.in_ok-from_slice-in-Apply.field-0 c.in-Apply.is c.as_slice.ensures c.in_ok-args-in-Apply.ensures c.in_ok-out-in-Apply.ensures.number
-    c.in_ok-from_slice-in-Apply.ensures c.rep_of.ensures c.in_ok-push-in-Apply.ensures.ok c.in_ok-out-in-Apply.ensures.names
+pub expr-returns-in_ok-args-in-Apply : goal.expr-returns-in_ok-args-in-Apply
+expr-returns-in_ok-args-in-Apply t c =
+    operated c.in-Apply.place c.in-Apply.word c.in-Apply.args c.as_slice.result.now c.in-Apply.made (named c.args.name) c.args.scope.now c.args.tree.now
+    (binds_of c.args.binds.now) (binds_of c.apply.new.binds) c.args.names.now c.apply.new.names c.in-Apply.is c.as_slice.ensures c.rep_of-made.ensures c.apply.result
+    (c.apply.ensures (flat_exps (all_id_exps c.as_slice.result.now) c.args.scope.now (length c.args.names.now)) (binds_of c.args.binds.now) c.args.names.now c.in_ok-args-in-Apply.ensures)
 
 pub exprs-each-preserved : goal.exprs-each-preserved
 exprs-each-preserved t c = one_less c.args.trees.now c.args.scope.now c.each.tree-index c.each.invariant c.each-test.true c.tree-item.is c.in_ok-expr.ensures c.in_ok-push.ensures.ok

@@ -1,6 +1,6 @@
 use Rattle.std.proofs.Common.{drop, length}
 use Rattle.nres_core.specs.FlatTree.{binds_of}
-use Rattle.nres_core.specs.Flatten.{flat_exps}
+use Rattle.nres_rules.specs.Flatten.{flat_exps}
 use Rattle.nres_core.specs.Mirror.{all_id_exps}
 use Rattle.nres_flat.specs.Adding.{Ahead}
 use Rattle.nres_flat.proofs.expr.+expr.Given as goal

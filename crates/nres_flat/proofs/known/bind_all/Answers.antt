@@ -1,4 +1,4 @@
-use Rattle.nres_core.specs.Flatten.{scoped}
+use Rattle.nres_rules.specs.Flatten.{scoped}
 use Rattle.nres_flat.proofs.Lookups.{bound}
 use Rattle.nres_flat.proofs.known.bind_all.Goals as goal
 

@@ -1,5 +1,5 @@
 use Rattle.std.proofs.Common.{◌≡◌, drop}
-use Rattle.nres_core.specs.Flatten.{scoped}
+use Rattle.nres_rules.specs.Flatten.{scoped}
 use Rattle.nres_flat.proofs.known.bind_all.Given as goal
 
 abbrev pub invariant-each : goal.invariant-each

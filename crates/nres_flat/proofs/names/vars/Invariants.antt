@@ -1,5 +1,5 @@
 use Rattle.std.proofs.Common.{◌≡◌, take}
-use Rattle.nres_core.specs.Flatten.{vars}
+use Rattle.nres_rules.specs.Flatten.{vars}
 use Rattle.nres_flat.proofs.names.vars.Given as goal
 
 abbrev pub invariant-each : goal.invariant-each

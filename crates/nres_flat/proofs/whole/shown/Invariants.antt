@@ -1,5 +1,5 @@
 use Rattle.std.proofs.Common.{◌≡◌, take}
-use Rattle.nres_core.specs.Flatten.{shown_reps}
+use Rattle.nres_rules.specs.Flatten.{shown_reps}
 use Rattle.nres_flat.proofs.whole.shown.Given as goal
 
 abbrev pub invariant-each : goal.invariant-each

@@ -1,5 +1,5 @@
 use Rattle.std.proofs.Common.{◌≡◌, take}
-use Rattle.nres_core.specs.Flatten.{taken}
+use Rattle.nres_rules.specs.Flatten.{taken}
 use Rattle.nres_flat.proofs.whole.taken.Given as goal
 
 abbrev pub invariant-each : goal.invariant-each

@@ -3,7 +3,7 @@ use Rattle.nres_core.specs.declared.op.Op.{Op}
 use Rattle.nres_core.specs.declared.value.Value.{Value}
 use Rattle.nres_meaning.specs.Laws.{FirstIsOne}
 use Rattle.nres_meaning.specs.Meaning.{whole_runs}
-use Rattle.nres_meaning.specs.Words.{op_named, known}
+use Rattle.nres_meaning.specs.WordOperations.{op_named, known}
 use Rattle.nres_meaning.proofs.Lively.{whole_lively, gives_first, fails_first, overruns_first}
 use Rattle.nres_meaning.proofs.laws.first_is_one.Goals as goal
 

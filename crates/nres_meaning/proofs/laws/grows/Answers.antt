@@ -4,7 +4,7 @@ use Rattle.nres_core.specs.declared.op.Op.{Op}
 use Rattle.nres_core.specs.declared.value.Value.{Value}
 use Rattle.nres_meaning.specs.Laws.{Grows}
 use Rattle.nres_meaning.specs.Meaning.{whole_runs}
-use Rattle.nres_meaning.specs.Words.{op_named, known}
+use Rattle.nres_meaning.specs.WordOperations.{op_named, known}
 use Rattle.nres_meaning.proofs.Growth.{whole_less}
 use Rattle.nres_meaning.proofs.Steps.{gives, fails}
 use Rattle.nres_meaning.proofs.laws.grows.Goals as goal

@@ -1,8 +1,8 @@
 use Rattle.std.proofs.Common.{◌≤◌, ◌+◌, ◌*◌, [], length}
 use Rattle.nres_core.specs.Texts.{operators}
 use Rattle.nres_core.specs.declared.tree.Block.{Block}
-use Rattle.nres_machine.specs.Cursor.{left}
-use Rattle.nres_machine.specs.Machine.{Mode, Moves, steps}
+use Rattle.nres_automaton.specs.Cursor.{left}
+use Rattle.nres_automaton.specs.Automaton.{Mode, Moves, steps}
 use Rattle.nres_syntax.proofs.block.+block.Given as goal
 
 abbrev pub decreases-body : goal.decreases-body

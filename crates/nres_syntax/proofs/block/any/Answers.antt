@@ -2,13 +2,13 @@ use Rattle.std.proofs.Common.{rules, arith, ◌≡◌, ◌<◌, ◌≤◌, ◌-�
 use Rattle.nres_core.specs.declared.tree.Body.TheVariants as bodies
 use Rattle.nres_core.specs.declared.tree.Step.TheVariants as kinds
 use Rattle.nres_syntax.specs.Bodies.{inner, named_to}
-use Rattle.nres_machine.specs.Cursor.{left}
-use Rattle.nres_machine.specs.Machine.{Mode, Reads, pass, leave, body, steps, whole, whole_atom, block_to, results, others, call_body}
-use Rattle.nres_machine.specs.declared.lexeme.Fixed.TheVariants as fixed
-use Rattle.nres_machine.proofs.Going as going
-use Rattle.nres_machine.proofs.Going.{◌then◌, ◌fails◌, exits, passes, took}
-use Rattle.nres_machine.proofs.Exprs as exprs
-use Rattle.nres_machine.proofs.Items as items
+use Rattle.nres_automaton.specs.Cursor.{left}
+use Rattle.nres_automaton.specs.Automaton.{Mode, Reads, pass, leave, body, steps, whole, whole_atom, block_to, results, others, call_body}
+use Rattle.nres_automaton.specs.declared.lexeme.Fixed.TheVariants as fixed
+use Rattle.nres_automaton.proofs.Going as going
+use Rattle.nres_automaton.proofs.Going.{◌then◌, ◌fails◌, exits, passes, took}
+use Rattle.nres_automaton.proofs.Exprs as exprs
+use Rattle.nres_automaton.proofs.Items as items
 use Rattle.nres_syntax.proofs.Blocks as blocks
 use Rattle.nres_syntax.proofs.block.any.Goals as goal
 

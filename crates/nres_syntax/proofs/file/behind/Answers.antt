@@ -1,9 +1,9 @@
 use Rattle.std.proofs.Common.{rules, arith, ℕ, ◌≡◌, ◌<◌, ◌≤◌, ◌-◌, ◌+◌, [], ◌∷◌, ◌++◌, length, cond, true, false, ap, ◌∙◌, sym, refl, subst}
-use Rattle.nres_machine.specs.Cursor.{left}
-use Rattle.nres_machine.specs.Machine.{Mode, Found, funs, fun_of, spec_of, withs, value}
+use Rattle.nres_automaton.specs.Cursor.{left}
+use Rattle.nres_automaton.specs.Automaton.{Mode, Found, funs, fun_of, spec_of, withs, value}
 use Rattle.nres_syntax.proofs.Ends as ends
-use Rattle.nres_machine.proofs.Going as going
-use Rattle.nres_machine.proofs.Going.{◌then◌, ◌fails◌, took}
+use Rattle.nres_automaton.proofs.Going as going
+use Rattle.nres_automaton.proofs.Going.{◌then◌, ◌fails◌, took}
 use Rattle.nres_syntax.proofs.Heads as heads
 use Rattle.nres_syntax.proofs.file.behind.Goals as goal
 

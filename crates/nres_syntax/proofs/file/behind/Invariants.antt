@@ -2,8 +2,8 @@ use Rattle.std.proofs.Common.{◌≤◌, [], List, length}
 use Rattle.nres_core.specs.Texts.{operators}
 use Rattle.nres_core.specs.declared.tree.Fun.{Fun}
 use Rattle.nres_core.specs.declared.tree.With.{With}
-use Rattle.nres_machine.specs.Cursor.{left}
-use Rattle.nres_machine.specs.Machine.{Found, Moves, funs, withs}
+use Rattle.nres_automaton.specs.Cursor.{left}
+use Rattle.nres_automaton.specs.Automaton.{Found, Moves, funs, withs}
 use Rattle.nres_syntax.proofs.file.behind.Given as goal
 
 abbrev pub invariant-each : goal.invariant-each

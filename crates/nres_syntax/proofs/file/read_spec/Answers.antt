@@ -2,9 +2,9 @@ use Rattle.std.proofs.Common.{◌≡◌, ◌∙◌, inl, inr, ap, sym, subst, If
 use Rattle.std.specs.Prelude.{true, false}
 use Rattle.nres_core.specs.Texts.{operators, SpecText}
 use Rattle.nres_core.specs.Tokens.{after, first}
-use Rattle.nres_core.specs.Words.{all_seen}
+use Rattle.nres_core.specs.Vocabulary.{all_seen}
 use Rattle.nres_syntax.specs.Files.{GivesFile}
-use Rattle.nres_machine.specs.Lexemes.{lexes}
+use Rattle.nres_automaton.specs.Lexemes.{lexes}
 use Rattle.nres_syntax.proofs.Whole as whole
 use Rattle.nres_syntax.proofs.file.read_spec.Goals as goal
 

@@ -2,8 +2,8 @@ use Rattle.std.proofs.Common.{◌≤◌, List, length}
 use Rattle.nres_core.specs.Texts.{operators}
 use Rattle.nres_core.specs.declared.tree.Param.{Param}
 use Rattle.nres_core.specs.declared.tree.Shown.{Shown}
-use Rattle.nres_machine.specs.Cursor.{left}
-use Rattle.nres_machine.specs.Machine.{Mode, Moves, more_shown}
+use Rattle.nres_automaton.specs.Cursor.{left}
+use Rattle.nres_automaton.specs.Automaton.{Mode, Moves, more_shown}
 use Rattle.nres_syntax.proofs.head.more_shown.Given as goal
 
 abbrev pub invariant-each : goal.invariant-each

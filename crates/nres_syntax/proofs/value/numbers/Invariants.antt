@@ -1,7 +1,7 @@
 use Rattle.std.proofs.Common.{ℕ, ◌≤◌, List, length}
 use Rattle.nres_core.specs.Texts.{operators}
-use Rattle.nres_machine.specs.Cursor.{left}
-use Rattle.nres_machine.specs.Machine.{Mode, Moves, numbers, pair_of}
+use Rattle.nres_automaton.specs.Cursor.{left}
+use Rattle.nres_automaton.specs.Automaton.{Mode, Moves, numbers, pair_of}
 use Rattle.nres_syntax.proofs.value.numbers.Given as goal
 
 abbrev pub invariant-each : goal.invariant-each

@@ -1,14 +1,14 @@
 use Rattle.std.proofs.Common.{rules, arith, ℕ, ◌≡◌, ◌<◌, ◌≤◌, ◌-◌, ◌+◌, [], ◌∷◌, ◌++◌, length, cond, true, false, ap, ◌∙◌, sym, refl, subst}
 use Rattle.std.specs.FinMap as maps
 use Rattle.std.specs.FinSet as sets
-use Rattle.numbers.specs.Bag.{bag_of}
+use Rattle.containers.specs.Bag.{bag_of}
 use Rattle.nres_core.specs.Texts.{put_all}
 use Rattle.nres_core.specs.declared.value.Value.TheVariants as v
-use Rattle.nres_machine.specs.Cursor.{left}
-use Rattle.nres_machine.specs.Machine.{Mode, Reads, pass, when, leave, comma_or, numbers, numbers_read, members, pairs, pair_of, braces, value}
-use Rattle.nres_machine.specs.declared.lexeme.Fixed.TheVariants as fixed
-use Rattle.nres_machine.proofs.Going as going
-use Rattle.nres_machine.proofs.Going.{◌then◌, ◌fails◌, exits, passes, took}
+use Rattle.nres_automaton.specs.Cursor.{left}
+use Rattle.nres_automaton.specs.Automaton.{Mode, Reads, pass, when, leave, comma_or, numbers, numbers_read, members, pairs, pair_of, braces, value}
+use Rattle.nres_automaton.specs.declared.lexeme.Fixed.TheVariants as fixed
+use Rattle.nres_automaton.proofs.Going as going
+use Rattle.nres_automaton.proofs.Going.{◌then◌, ◌fails◌, exits, passes, took}
 use Rattle.nres_syntax.proofs.Values as values
 use Rattle.nres_syntax.proofs.value.pairs.Goals as goal
 

@@ -1,6 +1,6 @@
 use Rattle.std.proofs.Common.{◌≡◌, ◌∙◌, ◌∷◌, length, arith, Some}
 use Rattle.nres_core.specs.Mirror.{exp_of, all_exps, all_steps, blk_of, bod_of}
-use Rattle.nres_core.specs.Types.{blk_type, bod_type, steps_type, with_types}
+use Rattle.nres_rules.specs.Types.{blk_type, bod_type, steps_type, with_types}
 use Rattle.nres_core.specs.declared.ty.Ty.TheVariants as ty
 use Rattle.nres_types.specs.Bodies.{gives_of}
 use Rattle.nres_types.specs.Findings.{told_of, wrongs}
@@ -46,7 +46,7 @@ pub bind-returns : goal.bind-returns
 bind-returns t c =
     let at : c.len-at.result ≡ length (told_of c.args.findings.now).binders = omega (arith, c.args.findings.now.binders.ok) in
     bind_done c.bind_all.result c.args.profiles.now c.args.names.now c.args.place (bod_of c.args.body.now) (told_of c.args.findings.now) (told_of c.add_binders.new.self) (told_of c.one_body.new.findings) (told_of c.note.new.self) (told_of c.note-2.new.self) (told_of c.set_binders.new.self)
-    c.args.scope.now c.one_body.new.scope c.bind_all.new.self (gives_of c.in_ok-gives.gives) c.types.result.now c.types-2.result.now (wrongs c.in_ok-twice.field-0) (wrongs c.pattern_counts.result) c.len-at.result
+    c.args.scope.now c.one_body.new.scope c.bind_all.new.scope (gives_of c.in_ok-gives.gives) c.types.result.now c.types-2.result.now (wrongs c.in_ok-twice.field-0) (wrongs c.pattern_counts.result) c.len-at.result
     c.in_ok-add_binders.ensures c.in_ok-gives.ensures.typed c.in_ok-gives.ensures.scope c.in_ok-twice.ensures c.note.ensures c.pattern_counts.ensures c.note-2.ensures at c.types.ensures c.set_binders.ensures c.types-2.ensures c.bind_all.ensures
 
 -- ---- two blocks
@@ -81,7 +81,7 @@ other_half-returns-clause-typed t c =
 
 pub turns-returns-clause-typed : goal.turns-returns-clause-typed
 turns-returns-clause-typed t c =
-    turns_done (told_of c.args.findings.now) (told_of c.exprs.new.findings) (told_of c.add_binders.new.self) (told_of c.operand.new.findings) (told_of c.block.new.findings) (told_of c.fit_turns.new.findings) c.args.profiles.now c.args.scope.now c.bind_all.new.self
+    turns_done (told_of c.args.findings.now) (told_of c.exprs.new.findings) (told_of c.add_binders.new.self) (told_of c.operand.new.findings) (told_of c.block.new.findings) (told_of c.fit_turns.new.findings) c.args.profiles.now c.args.scope.now c.bind_all.new.scope
     c.args.vars.now c.args.vars_place (all_exps c.args.starts.now) (exp_of c.args.test.now) (blk_of c.args.body.now) c.in_ok-heads.heads.items c.as_slice.result.now c.in_ok-results.results.heads.items
     c.in_ok-types.types.items c.as_slice-2.result.now c.as_slice-3.result.now c.as_slice-4.result.now c.in_ok-results.results.place
     c.in_ok-heads.ensures c.in_ok-types.ensures c.as_slice.ensures.value c.as_slice-2.ensures.value c.in_ok-add_binders.ensures c.as_slice-3.ensures.value c.in_ok-bind_all.ensures c.in_ok-operand.ensures c.in_ok-results.ensures.typed c.as_slice-4.ensures.value c.in_ok-fit_turns.ensures
@@ -94,7 +94,7 @@ turns-returns-clause-scope t c =
 
 pub each-returns-clause-typed : goal.each-returns-clause-typed
 each-returns-clause-typed t c =
-    each_done (told_of c.args.findings.now) (told_of c.note.new.self) (told_of c.exprs.new.findings) (told_of c.add_binder.new.self) (told_of c.add_binders.new.self) (told_of c.block.new.findings) (told_of c.fit_turns.new.findings) c.args.profiles.now c.args.scope.now c.bind.new.self c.bind_all.new.self
+    each_done (told_of c.args.findings.now) (told_of c.note.new.self) (told_of c.exprs.new.findings) (told_of c.add_binder.new.self) (told_of c.add_binders.new.self) (told_of c.block.new.findings) (told_of c.fit_turns.new.findings) c.args.profiles.now c.args.scope.now c.bind.new.self c.bind_all.new.scope
     c.args.var.now c.args.over.now c.args.vars.now c.args.vars_place (all_exps c.args.starts.now) (blk_of c.args.body.now) c.in_ok-heads.heads.items c.as_slice.result.now c.in_ok-results.results.heads.items
     c.in_ok-types.types.items c.as_slice-2.result.now c.as_slice-3.result.now c.as_slice-4.result.now c.in_ok-results.results.place (wrongs c.name_wants.result) c.bytes.result.now
     c.name_wants.ensures c.note.ensures c.in_ok-heads.ensures c.in_ok-types.ensures c.as_slice.ensures.value c.in_ok-add_binder.ensures c.as_slice-2.ensures.value c.in_ok-add_binders.ensures c.in_ok-bind.ensures c.bytes.ensures c.as_slice-3.ensures.value c.in_ok-bind_all.ensures

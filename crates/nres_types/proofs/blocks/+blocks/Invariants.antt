@@ -1,6 +1,6 @@
 use Rattle.std.proofs.Common.{◌≡◌, drop}
 use Rattle.nres_core.specs.Mirror.{all_exps, all_steps}
-use Rattle.nres_core.specs.Types.{steps_type}
+use Rattle.nres_rules.specs.Types.{steps_type}
 use Rattle.nres_types.specs.Bodies.{StepsRemain}
 use Rattle.nres_types.specs.Findings.{told_of}
 use Rattle.nres_types.proofs.blocks.+blocks.Given as goal

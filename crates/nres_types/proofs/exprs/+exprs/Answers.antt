@@ -1,6 +1,6 @@
 use Rattle.std.proofs.Common.{◌≡◌, length, arith}
 use Rattle.nres_core.specs.Mirror.{exp_of, all_exps}
-use Rattle.nres_core.specs.Types.{exps_type}
+use Rattle.nres_rules.specs.Types.{exps_type}
 use Rattle.nres_types.specs.Findings.{told_of}
 use Rattle.nres_types.proofs.Steps.{operand_done, binary_done, apply_done, applied_done, has_place, exps_more, exps_done}
 use Rattle.nres_types.proofs.exprs.+exprs.Goals as goal

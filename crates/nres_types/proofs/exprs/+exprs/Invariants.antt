@@ -1,6 +1,6 @@
 use Rattle.std.proofs.Common.{drop}
 use Rattle.nres_core.specs.Mirror.{all_exps}
-use Rattle.nres_core.specs.Types.{exps_type}
+use Rattle.nres_rules.specs.Types.{exps_type}
 use Rattle.nres_types.specs.Findings.{told_of, Remains}
 use Rattle.nres_types.proofs.exprs.+exprs.Given as goal
 

@@ -1,5 +1,5 @@
 use Rattle.std.proofs.Common.{◌≡◌, ◌++◌, drop}
-use Rattle.nres_core.specs.Types.{types_of}
+use Rattle.nres_rules.specs.Types.{types_of}
 use Rattle.nres_types.proofs.gives.add_types.Given as goal
 
 abbrev pub invariant-loop-at : goal.invariant-loop-at

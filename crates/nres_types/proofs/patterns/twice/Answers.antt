@@ -1,5 +1,5 @@
 use Rattle.std.proofs.Common.{◌∙◌, ap, []}
-use Rattle.nres_core.specs.Types.{twice}
+use Rattle.nres_rules.specs.Types.{twice}
 use Rattle.nres_types.proofs.Duplicates.{fresh_rest, fresh_has, not_seen}
 use Rattle.nres_types.proofs.patterns.twice.Goals as goal
 

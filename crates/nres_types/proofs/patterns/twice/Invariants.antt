@@ -1,7 +1,7 @@
 use Rattle.std.proofs.Common.{◌≡◌, drop, take, [], Bor, List, ℕ}
 use Rattle.indexmap.specs.IndexSet.{contains}
 use Rattle.nres_core.specs.Tree.{same_name}
-use Rattle.nres_core.specs.Types.{twice, is_among}
+use Rattle.nres_rules.specs.Types.{twice, is_among}
 use Rattle.nres_types.specs.Patterns.{seen_in}
 use Rattle.nres_types.proofs.patterns.twice.Given as goal
 

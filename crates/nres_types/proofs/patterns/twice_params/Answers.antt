@@ -1,6 +1,6 @@
 use Rattle.std.proofs.Common.{[]}
 use Rattle.nres_core.specs.Mirror.{named_params}
-use Rattle.nres_core.specs.Types.{twice}
+use Rattle.nres_rules.specs.Types.{twice}
 use Rattle.nres_types.proofs.Entries.{params_fresh, params_has, params_again, params_none}
 use Rattle.nres_types.proofs.patterns.twice_params.Goals as goal
 

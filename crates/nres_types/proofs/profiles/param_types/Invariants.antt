@@ -1,5 +1,5 @@
 use Rattle.std.proofs.Common.{◌≡◌, ◌++◌, drop}
-use Rattle.nres_core.specs.Types.{param_types}
+use Rattle.nres_rules.specs.Types.{param_types}
 use Rattle.nres_types.proofs.profiles.param_types.Given as goal
 
 abbrev pub invariant-loop-param : goal.invariant-loop-param

@@ -1,5 +1,5 @@
 use Rattle.std.proofs.Common.{◌≡◌, ◌++◌, drop}
-use Rattle.nres_core.specs.Types.{shown_types, some_types}
+use Rattle.nres_rules.specs.Types.{shown_types, some_types}
 use Rattle.nres_types.proofs.profiles.shown_types.Given as goal
 
 abbrev pub invariant-loop-one : goal.invariant-loop-one

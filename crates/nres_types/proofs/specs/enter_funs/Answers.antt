@@ -1,5 +1,5 @@
 use Rattle.std.proofs.Common.{[], take}
-use Rattle.nres_core.specs.Types.{funs_type}
+use Rattle.nres_rules.specs.Types.{funs_type}
 use Rattle.nres_types.specs.Findings.{told_of, joined, wrongs}
 use Rattle.nres_types.specs.Patterns.{seen_in, named_funs}
 use Rattle.nres_types.specs.Wholes.{typed_told}

@@ -1,7 +1,7 @@
 use Rattle.std.proofs.Common.{◌≡◌, drop, take, [], Bor, List, ℕ}
 use Rattle.indexmap.specs.IndexSet.{contains}
 use Rattle.nres_core.specs.Tree.{same_name}
-use Rattle.nres_core.specs.Types.{funs_type, is_among}
+use Rattle.nres_rules.specs.Types.{funs_type, is_among}
 use Rattle.nres_types.specs.Findings.{told_of, joined}
 use Rattle.nres_types.specs.Patterns.{seen_in, named_funs}
 use Rattle.nres_types.specs.Wholes.{typed_told}

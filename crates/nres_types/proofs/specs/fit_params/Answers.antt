@@ -1,4 +1,4 @@
-use Rattle.nres_core.specs.Types.{params_fit}
+use Rattle.nres_rules.specs.Types.{params_fit}
 use Rattle.nres_types.specs.Findings.{told_of, noted, wrongs}
 use Rattle.nres_types.proofs.Entries.{params_more, params_last}
 use Rattle.nres_types.proofs.specs.fit_params.Goals as goal

@@ -1,5 +1,5 @@
 use Rattle.target_code.specs.declared.tree.Rep.TheVariants.{Word}
-use Rattle.nres_core.specs.Types.{shown_fit}
+use Rattle.nres_rules.specs.Types.{shown_fit}
 use Rattle.nres_core.specs.declared.ty.Ty.TheVariants.{Nat}
 use Rattle.nres_types.specs.Findings.{told_of, noted, wrongs}
 use Rattle.nres_types.proofs.Entries.{shown_more, shown_last}

@@ -1,5 +1,5 @@
 use Rattle.std.proofs.Common.{◌≡◌, drop}
-use Rattle.nres_core.specs.Types.{shown_fit}
+use Rattle.nres_rules.specs.Types.{shown_fit}
 use Rattle.nres_types.specs.Findings.{told_of, noted}
 use Rattle.nres_types.proofs.specs.fit_shown.Given as goal
 

@@ -1,5 +1,5 @@
 use Rattle.std.proofs.Common.{◌≡◌, drop}
-use Rattle.nres_core.specs.Identify.{id_steps}
+use Rattle.nres_rules.specs.Identify.{id_steps}
 use Rattle.nres_core.specs.Mirror.{all_steps}
 use Rattle.op_identify.specs.Fronts.{behind_steps}
 use Rattle.op_identify.proofs.block.+block.Given as goal

@@ -1,5 +1,5 @@
 use Rattle.std.proofs.Common.{◌≡◌, drop}
-use Rattle.nres_core.specs.Identify.{id_exps}
+use Rattle.nres_rules.specs.Identify.{id_exps}
 use Rattle.nres_core.specs.Mirror.{all_exps}
 use Rattle.op_identify.specs.Fronts.{behind_exps}
 use Rattle.op_identify.proofs.expr.+expr.Given as goal

@@ -1,6 +1,6 @@
 use Rattle.std.proofs.Common.{ℕ, List, refl, ap}
 use Rattle.std.specs.Prelude.{Some}
-use Rattle.numbers.specs.Bag as bags
+use Rattle.containers.specs.Bag as bags
 use Rattle.relations.specs.Images.{bits_image, hset_image, amap_image, hmap_image}
 use Rattle.relations.proofs.laws.images_seen.Goals as goal
 

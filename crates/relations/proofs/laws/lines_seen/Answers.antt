@@ -2,7 +2,7 @@ use Rattle.std.proofs.Common.{refl, ap, ◌++◌, ◌∷◌, [], List, ℕ}
 use Rattle.std.specs.Fmt.{digits}
 use Rattle.std.specs.Prelude.{codes}
 use Rattle.relations.specs.ResultLines.{listed, numbers, map_text}
-use Rattle.numbers.specs.Bag as bags
+use Rattle.containers.specs.Bag as bags
 use Rattle.relations.proofs.laws.lines_seen.Goals as goal
 
 pub returns : goal.returns

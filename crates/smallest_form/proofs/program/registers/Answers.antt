@@ -1,5 +1,5 @@
 use Rattle.std.proofs.Common.{◌≡◌, ◌≤◌, List, [], ◌∷◌, length, refl, sym, arith}
-use Rattle.nres_core.specs.Flatten.{taken}
+use Rattle.nres_rules.specs.Flatten.{taken}
 use Rattle.nres_core.specs.declared.tree.Param.{Param}
 use Rattle.smallest_form.specs.Programs.{registers}
 use Rattle.smallest_form.proofs.program.registers.Goals as goal

@@ -1,7 +1,9 @@
 use Rattle.std.proofs.Common.{◌≡◌, [], ◌∷◌, Some, None, sym, ap, ◌∙◌, subst}
 use Rattle.nres_core.specs.FlatTree.{FlatWhole}
-use Rattle.nres_core.specs.Flatten.{taken}
-use Rattle.nres_core.specs.Identify.{IsFlatOf}
+use Rattle.nres_rules.specs.Flatten.{taken}
+use Rattle.nres_rules.specs.Identify.{IsFlatOf}
+use Rattle.soundness.specs.Behaviour.{of_spec}
+use Rattle.soundness.specs.Bound.{IsBoundedFor}
 use Rattle.soundness.specs.Samples.{array_get}
 use Rattle.soundness.specs.Shape.{Shape}
 use Rattle.soundness.specs.Sound.{Sound}
@@ -36,4 +38,7 @@ returns-in_ok-program_of-in-Some-clause-shape c =
     subst (λ (t : Program). (f : FlatWhole) × IsFlatOf c.args.spec.now f × Shape (array_get ∷ []) f t) (sym (is_program c)) (right.shaped c.args.spec.now c.in-Some.form (has_form c))
 
 pub returns-in_ok-program_of-in-Some-clause-sound : goal.returns-in_ok-program_of-in-Some-clause-sound
-returns-in_ok-program_of-in-Some-clause-sound c = subst (Sound c.args.spec.now) (sym (is_program c)) (right.sound c.args.spec.now c.in-Some.form (has_form c) (has_words c))
+returns-in_ok-program_of-in-Some-clause-sound c = subst (Sound c.args.spec.now) (sym (is_program c)) (right.right c.args.spec.now c.in-Some.form (has_form c) (has_words c)).sound
+
+pub returns-in_ok-program_of-in-Some-clause-bounded : goal.returns-in_ok-program_of-in-Some-clause-bounded
+returns-in_ok-program_of-in-Some-clause-bounded c = subst (IsBoundedFor (of_spec c.args.spec.now)) (sym (is_program c)) (right.right c.args.spec.now c.in-Some.form (has_form c) (has_words c)).bounded

@@ -1,4 +1,4 @@
-use Rattle.target_lines.specs.Words.{keyword_names, keyword_of}
+use Rattle.target_lines.specs.LineWords.{keyword_names, keyword_of}
 use Rattle.target_lines.proofs.words.keyword.Goals as goal
 
 pub returns : goal.returns

@@ -1,5 +1,5 @@
 use Rattle.std.proofs.Common.{◌≡◌, drop, map}
-use Rattle.target_lines.specs.Words.{name_of}
+use Rattle.target_lines.specs.LineWords.{name_of}
 use Rattle.target_lines.proofs.words.named.Given as goal
 
 abbrev pub invariant-loop-text : goal.invariant-loop-text

@@ -1,4 +1,4 @@
-use Rattle.target_lines.specs.Words.{rep_names, rep_of}
+use Rattle.target_lines.specs.LineWords.{rep_names, rep_of}
 use Rattle.target_lines.proofs.words.rep.Goals as goal
 
 pub returns : goal.returns

@@ -1,5 +1,5 @@
 use Rattle.std.proofs.Common.{◌≡◌, ◌++◌, take, length}
-use Rattle.nres_core.specs.Flatten.{fresh, names_of}
+use Rattle.nres_rules.specs.Flatten.{fresh, names_of}
 use Rattle.nres_flat.proofs.names.Names.bind_all.Given as goal
 
 abbrev pub invariant-each : goal.invariant-each

@@ -1,5 +1,5 @@
 use Rattle.std.proofs.Common.{◌≡◌, drop}
-use Rattle.nres_core.specs.Types.{types_for}
+use Rattle.nres_rules.specs.Types.{types_for}
 use Rattle.nres_types.specs.Findings.{told_of, bound_all}
 use Rattle.nres_types.proofs.findings.Findings.add_binders.Given as goal
 

@@ -1,7 +1,7 @@
 use Rattle.std.proofs.Common.{None}
 use Rattle.nres_core.specs.declared.ty.Ty.TheVariants.{Nat}
 use Rattle.nres_types.specs.Findings.{told_of, noted}
-use Rattle.nres_core.specs.Types.{all_want}
+use Rattle.nres_rules.specs.Types.{all_want}
 use Rattle.nres_types.proofs.Heads.{want_more, want_last}
 use Rattle.nres_types.proofs.findings.Findings.expect_all.Goals as goal
 

@@ -1,5 +1,5 @@
 use Rattle.std.proofs.Common.{◌≡◌, drop}
-use Rattle.nres_core.specs.Types.{all_want}
+use Rattle.nres_rules.specs.Types.{all_want}
 use Rattle.nres_types.specs.Findings.{told_of, noted}
 use Rattle.nres_types.proofs.findings.Findings.expect_all.Given as goal
 

@@ -1,6 +1,6 @@
 use Rattle.std.proofs.Common.{None, ap, ◌∙◌}
 use Rattle.nres_types.specs.Findings.{told_of, noted}
-use Rattle.nres_core.specs.Types.{all_want_known}
+use Rattle.nres_rules.specs.Types.{all_want_known}
 use Rattle.nres_types.proofs.Heads.{known_more, known_last}
 use Rattle.nres_types.proofs.findings.Findings.expect_known.Goals as goal
 

@@ -1,7 +1,7 @@
 use Rattle.std.proofs.Common.{◌≡◌, drop, Bor, List, ℕ}
 use Rattle.indexmap.specs.IndexMap.{get}
 use Rattle.nres_core.specs.Tree.{same_name}
-use Rattle.nres_core.specs.Types.{profiles, profile_at}
+use Rattle.nres_rules.specs.Types.{profiles, profile_at}
 use Rattle.nres_types.specs.Procedures.{seen_profile, known_profile, or_else}
 use Rattle.nres_types.proofs.profiles.Profiles.new.Given as goal
 

@@ -1,4 +1,0 @@
-pub mod Bounded
-pub mod Flattened
-pub mod Samples
-pub mod Typing

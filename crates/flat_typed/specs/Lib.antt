@@ -1,3 +1,0 @@
-pub mod Binders
-pub mod Laws
-pub mod Samples

@@ -1,0 +1,14 @@
+pub mod BindersLemmas
+pub mod FormedTyped
+pub mod Identified
+pub mod Kept
+pub mod Wholes
+pub mod MeaningSamples
+pub mod NotRefused
+pub mod Outcomes
+pub mod Same
+pub mod TakenLemmas
+pub mod TreesLemmas
+pub mod Typed
+pub mod TypingSamples
+pub mod Words

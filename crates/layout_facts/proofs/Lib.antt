@@ -1,0 +1,5 @@
+pub mod Contents
+pub mod FootprintsLemmas
+pub mod Facts
+pub mod Ranges
+pub mod Slices

@@ -1,0 +1,4 @@
+pub mod Cursor
+pub mod Laws
+pub mod Lexemes
+pub mod Automaton

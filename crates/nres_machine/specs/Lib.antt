@@ -1,4 +1,0 @@
-pub mod Cursor
-pub mod Laws
-pub mod Lexemes
-pub mod Machine

@@ -1,0 +1,3 @@
+pub mod FirstTyped
+pub mod OneBlock
+pub mod FirstFlat

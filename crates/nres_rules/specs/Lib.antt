@@ -1,0 +1,9 @@
+pub mod FlatSamples
+pub mod FlatTyped
+pub mod Flatten
+pub mod Identify
+pub mod IdentifySamples
+pub mod SizeSamples
+pub mod TypeSamples
+pub mod Typed
+pub mod Types

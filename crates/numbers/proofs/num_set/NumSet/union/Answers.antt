@@ -1,6 +1,0 @@
-use Rattle.numbers.proofs.SetsOfRising.{is_also}
-use Rattle.numbers.proofs.SetItems.{union_turned}
-use Rattle.numbers.proofs.num_set.NumSet.union.Goals as goal
-
-pub returns-then-len : goal.returns-then-len
-returns-then-len c = is_also c.with_all.result c.with_all.ensures (union_turned _ _)

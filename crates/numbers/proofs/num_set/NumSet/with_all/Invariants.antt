@@ -1,6 +1,0 @@
-use Rattle.std.proofs.Common.{◌≡◌, take}
-use Rattle.numbers.specs.Sets as sets
-use Rattle.numbers.proofs.num_set.NumSet.with_all.Given as goal
-
-abbrev pub invariant-loop-number : goal.invariant-loop-number
-invariant-loop-number l = l.all ≡ sets.union l.self (sets.from_list (take l.number-index l.number-items))

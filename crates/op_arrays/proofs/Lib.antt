@@ -1,0 +1,4 @@
+pub mod ArraysLemmas
+pub mod VecsLemmas
+pub mod ArrayRows
+pub mod VecRows

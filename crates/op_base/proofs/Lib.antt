@@ -1,0 +1,5 @@
+pub mod CountsLemmas
+pub mod PushLemmas
+pub mod Mults
+pub mod Words
+pub mod Claims

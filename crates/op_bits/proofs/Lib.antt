@@ -1,0 +1,10 @@
+pub mod Words
+pub mod BitsLemmas
+pub mod Merged
+pub mod Union
+pub mod Members
+pub mod Elems
+pub mod BitsRows
+pub mod MapWords
+pub mod MapsLemmas
+pub mod MapRows

@@ -1,0 +1,4 @@
+pub mod Bits
+pub mod Maps
+pub mod BitsRules
+pub mod MapRules

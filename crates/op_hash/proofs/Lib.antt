@@ -1,0 +1,10 @@
+pub mod TablesLemmas
+pub mod Walk
+pub mod Keys
+pub mod Move
+pub mod Insert
+pub mod Small
+pub mod Sizes
+pub mod Values
+pub mod HsetRows
+pub mod HmapRows

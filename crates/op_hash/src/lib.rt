@@ -1,0 +1,4 @@
+//! The procedures of hash tables.
+#![tactic(auto)]
+
+pub mod laws;

@@ -1,0 +1,4 @@
+//! The procedures of heaps.
+#![tactic(auto)]
+
+pub mod laws;

@@ -1,0 +1,11 @@
+pub mod Context
+pub mod Table
+pub mod OperationWords
+pub mod Facts
+pub mod Use
+pub mod Steps
+pub mod Check
+pub mod Laws
+pub mod Rows
+pub mod Samples
+pub mod Sides

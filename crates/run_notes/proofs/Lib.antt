@@ -1,0 +1,4 @@
+pub mod Mapped
+pub mod Made
+pub mod Lawful
+pub mod Checked

@@ -1,6 +1,0 @@
-use Rattle.std.proofs.Common.{◌≡◌, ◌++◌, ◌-◌}
-use Rattle.target_lines.specs.Texts.{indent}
-use Rattle.target_lines.proofs.writing.indent.Given as goal
-
-abbrev pub invariant-loop : goal.invariant-loop
-invariant-loop l = l.out.items ++ indent (l.level - l.counter) ≡ l.initial.out.items ++ indent l.level

@@ -1,5 +1,0 @@
-use Rattle.target_meaning.proofs.Numbered.{lines_if, lines_while}
-use Rattle.target_meaning.proofs.laws.lines_of_blocks.Goals as goal
-
-pub returns : goal.returns
-returns c = record { choice = lines_if; repeat = lines_while }

@@ -1,0 +1,12 @@
+pub mod DerivedLemmas
+pub mod FormedLemmas
+pub mod FreeNamesLemmas
+pub mod NamesLemmas
+pub mod SignatureLemmas
+pub mod TableLemmas
+pub mod TokensLemmas
+pub mod TypedLemmas
+pub mod TypedTreesLemmas
+pub mod TypesLemmas
+pub mod TypingsLemmas
+pub mod WordLemmas
