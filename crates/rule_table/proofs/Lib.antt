@@ -1,0 +1,4 @@
+pub mod TextPasses
+pub mod LibraryLemmas
+pub mod SoundRows
+pub mod FirstRowLemmas

@@ -1,0 +1,5 @@
+pub mod Library
+pub mod FirstRow
+pub mod RowProcedures
+pub mod Sound
+pub mod Laws
