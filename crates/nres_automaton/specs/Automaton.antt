@@ -9,6 +9,7 @@ use Rattle.target_code.specs.declared.tree.Rep.TheVariants as reps
 use Rattle.containers.specs.Bag.{bag_of}
 use Rattle.nres_core.specs.Grammar.{is_chain}
 use Rattle.nres_core.specs.Texts.{operators, param, put_all}
+pub use Rattle.nres_core.specs.Vocabulary.{looseness}
 use Rattle.nres_core.specs.Vocabulary.{named}
 use Rattle.nres_core.specs.declared.place.Named.{Named}
 use Rattle.nres_core.specs.declared.place.Place.{Place}
@@ -115,21 +116,6 @@ is_list _ = false
 
 abbrev pub fun_of : Named → List Param → List Shown → Block → Fun
 fun_of n xs ys z = record { name = n.name; place = n.place; params = xs; shown = ys; body = z }
-
--- how loosely a sign binds
-abbrev pub looseness : Calc → ℕ
-looseness calc.Mul = 1
-looseness calc.Div = 1
-looseness calc.Mod = 1
-looseness calc.Add = 2
-looseness calc.Sub = 2
-looseness calc.Lt = 3
-looseness calc.Le = 3
-looseness calc.Eq = 3
-looseness calc.Ne = 3
-looseness calc.And = 4
-looseness calc.Or = 5
-looseness _ = 0
 
 -- what the tokens are: what they give, or the tokens from the refused one on, and whether only a limit refuses it
 pub data Outcome : Type 0 where

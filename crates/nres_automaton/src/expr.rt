@@ -8,7 +8,7 @@ ghost use Rattle.nres_automaton.specs.Automaton.{Reads, atom as atom_mode, atoms
 use crate::cursor::Cursor;
 use crate::lexeme::{Bounded, Fixed, Lexeme, arity, is_fixed};
 use crate::refusal::SyntaxRefusal;
-use nres_core::{Chosen, Expr, Named, Place};
+use nres_core::{Chosen, Expr, Named, Place, looseness};
 use sqlite_items::{Boxed, Items};
 use std::alloc::{AllocError, Global};
 use target_code::{Calc, Name, NameRefusal, Rep};
@@ -48,20 +48,6 @@ fn binary(
         left: Boxed::new(alloc, left)?,
         right: Boxed::new(alloc, right)?,
     })
-}
-
-/// How loosely a sign binds; words are tighter than all signs.
-fn looseness(word: Calc) -> u8
-    ensures { result ≡ automaton.looseness word }
-{
-    match word {
-        Calc::Mul | Calc::Div | Calc::Mod => 1,
-        Calc::Add | Calc::Sub => 2,
-        Calc::Lt | Calc::Le | Calc::Eq | Calc::Ne => 3,
-        Calc::And => 4,
-        Calc::Or => 5,
-        Calc::Min | Calc::Max | Calc::Xor | Calc::Shl | Calc::Shr => 0,
-    }
 }
 
 fn bounded(kind: Bounded, bound: u32) -> Rep

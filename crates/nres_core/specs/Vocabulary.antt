@@ -100,6 +100,21 @@ binary_sign s = in_table s (
     ∷ (codes "<", (calc.Lt, 3)) ∷ (codes "<=", (calc.Le, 3)) ∷ (codes "==", (calc.Eq, 3)) ∷ (codes "!=", (calc.Ne, 3))
     ∷ (codes "&&", (calc.And, 4)) ∷ (codes "||", (calc.Or, 5)) ∷ [])
 
+-- how loosely a sign binds, from 1 to 5; a word binds as an application does
+abbrev pub looseness : Calc → ℕ
+looseness calc.Mul = 1
+looseness calc.Div = 1
+looseness calc.Mod = 1
+looseness calc.Add = 2
+looseness calc.Sub = 2
+looseness calc.Lt = 3
+looseness calc.Le = 3
+looseness calc.Eq = 3
+looseness calc.Ne = 3
+looseness calc.And = 4
+looseness calc.Or = 5
+looseness _ = 0
+
 -- a name that a variable may have
 abbrev pub is_free_name : List ℕ → Bool
 is_free_name x = is_name x && not (is_reserved x)

@@ -26,4 +26,4 @@ pub use token::{Piece, Token, TokenKind};
 pub use tree::{Block, Body, Chosen, Expr, Fun, Param, Shown, Spec, Step, Typing, With};
 pub use ty::Ty;
 pub use value::Value;
-pub use vocabulary::{ByType, Meant, OPERATION_WORDS, OpEntry, look_up, rep_type};
+pub use vocabulary::{ByType, Meant, OPERATION_WORDS, OpEntry, look_up, looseness, rep_type};

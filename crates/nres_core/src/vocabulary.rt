@@ -1,11 +1,12 @@
 //! The words of operations, and what each operation takes and gives.
 
-ghost use Rattle.std.specs.Prelude.{◌≡◌, Some, map};
+ghost use Rattle.std.specs.Prelude.{◌≡◌, ◌≤◌, Some, map};
+ghost use Rattle.nres_core.specs.Vocabulary.{looseness};
 ghost use Rattle.nres_core.specs.Operations.{any_of, at_type, entry, entry_value, in_table, meant, meant_arity, meant_is_bare, meant_is_taking, rep_type, value_type};
 
 use crate::Ty::{Bag, List, Map, Nat, Set};
 use crate::{Op, Ty, Value};
-use target_code::Rep;
+use target_code::{Calc, Rep};
 
 /// What an operation takes and gives.
 #[derive(Clone, Copy)]
@@ -253,4 +254,19 @@ pub fn look_up(word: &[u8]) -> Option<Meant>
     ensures { result ≡ meant word.now }
 {
     in_table(&OPERATION_WORDS, word)
+}
+
+/// How loosely a sign binds, from 1 to 5; a word binds as an application does.
+pub fn looseness(word: Calc) -> u8
+    ensures value { result ≡ looseness word }
+    ensures small { result ≤ 5 }
+{
+    match word {
+        Calc::Mul | Calc::Div | Calc::Mod => 1,
+        Calc::Add | Calc::Sub => 2,
+        Calc::Lt | Calc::Le | Calc::Eq | Calc::Ne => 3,
+        Calc::And => 4,
+        Calc::Or => 5,
+        Calc::Min | Calc::Max | Calc::Xor | Calc::Shl | Calc::Shr => 0,
+    }
 }

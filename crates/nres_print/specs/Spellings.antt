@@ -1,10 +1,11 @@
--- The words and signs of a specification's text, and how loosely a sign binds.
+-- The words and signs of a specification's text, and the levels of what stands beside a sign.
 use Rattle.std.specs.Prelude.{ℕ, zero, suc, Bool, true, false, cond, nat_eq, List, [], ◌∷◌, ◌++◌, codes, decimal}
 use Rattle.std.specs.List.{flat_map}
 use Rattle.target_code.specs.declared.tree.Calc.{Calc}
 use Rattle.target_code.specs.declared.tree.Calc.TheVariants as calc
 use Rattle.target_code.specs.declared.tree.Rep.{Rep}
 use Rattle.target_code.specs.Texts.{rep_text}
+pub use Rattle.nres_core.specs.Vocabulary.{looseness}
 use Rattle.nres_core.specs.Vocabulary.{word_of}
 use Rattle.nres_core.specs.declared.ty.Ty.{Ty}
 use Rattle.nres_core.specs.declared.ty.Ty.TheVariants as ty
@@ -27,21 +28,6 @@ calc_text calc.Or = codes "||"
 calc_text calc.Xor = codes "xor"
 calc_text calc.Shl = codes "shl"
 calc_text calc.Shr = codes "shr"
-
--- how loosely a sign binds, from 1 to 5; a word binds as an application does
-abbrev pub looseness : Calc → ℕ
-looseness calc.Mul = 1
-looseness calc.Div = 1
-looseness calc.Mod = 1
-looseness calc.Add = 2
-looseness calc.Sub = 2
-looseness calc.Lt = 3
-looseness calc.Le = 3
-looseness calc.Eq = 3
-looseness calc.Ne = 3
-looseness calc.And = 4
-looseness calc.Or = 5
-looseness _ = 0
 
 -- the level of what stands on the left of a sign, where level 0 is an atom, 1 an application or `!`, and m + 1 an expression of looseness m:
 -- signs group to the left, but comparisons do not

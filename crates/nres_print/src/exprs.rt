@@ -5,7 +5,7 @@ ghost use Rattle.nres_print.specs.Exprs as spec;
 ghost use Rattle.nres_print.specs.Spellings.{listed, bracketed};
 
 use crate::words;
-use nres_core::{Chosen, Expr};
+use nres_core::{Chosen, Expr, looseness};
 use std::alloc::AllocError;
 use target_code::{Calc, push_number, push_rep};
 
@@ -16,7 +16,7 @@ fn stands(e: &Expr, level: u8) -> bool
     match e {
         Expr::Num { .. } | Expr::Truth { .. } | Expr::Var(_) => true,
         Expr::Not { .. } | Expr::Apply { .. } => 1 <= level,
-        Expr::Binary { word, .. } => words::looseness(*word) + 1 <= level,
+        Expr::Binary { word, .. } => looseness(*word) + 1 <= level,
     }
 }
 
@@ -52,7 +52,7 @@ fn plain(out: &mut Vec<u8>, e: &Expr) -> Result<(), AllocError>
             front(out, *word)?;
             expr(out, left.get(), words::left_level(*word))?;
             between(out, *word)?;
-            expr(out, right.get(), words::looseness(*word))
+            expr(out, right.get(), looseness(*word))
         }
         Expr::Not { arg, .. } => {
             out.extend_from_slice(b"!")?;
@@ -75,7 +75,7 @@ fn plain(out: &mut Vec<u8>, e: &Expr) -> Result<(), AllocError>
 fn front(out: &mut Vec<u8>, word: Calc) -> Result<(), AllocError>
     ensures { OnOk result (out.new.items ≡ out.old.items ++ spec.front_text word) }
 {
-    if words::looseness(word) != 0 {
+    if looseness(word) != 0 {
         return Ok(());
     }
     out.extend_from_slice(words::calc(word))?;
@@ -87,7 +87,7 @@ fn between(out: &mut Vec<u8>, word: Calc) -> Result<(), AllocError>
     ensures { OnOk result (out.new.items ≡ out.old.items ++ spec.between_text word) }
 {
     out.extend_from_slice(b" ")?;
-    if words::looseness(word) == 0 {
+    if looseness(word) == 0 {
         return Ok(());
     }
     out.extend_from_slice(words::calc(word))?;

@@ -4,7 +4,7 @@ ghost use Rattle.std.specs.Prelude.{◌≡◌, ◌≤◌, ◌++◌, decimal, OnO
 ghost use Rattle.nres_print.specs.Spellings as spec;
 ghost use Rattle.target_code.specs.Texts.{rep_text};
 
-use nres_core::Ty;
+use nres_core::{Ty, looseness};
 use std::alloc::AllocError;
 use target_code::{Calc, Rep, push_rep};
 
@@ -29,21 +29,6 @@ pub fn calc(word: Calc) -> &'static [u8]
         Calc::Xor => b"xor",
         Calc::Shl => b"shl",
         Calc::Shr => b"shr",
-    }
-}
-
-/// How loosely a sign binds, from 1 to 5; a word binds as an application does.
-pub fn looseness(word: Calc) -> u8
-    ensures value { result ≡ spec.looseness word }
-    ensures small { result ≤ 5 }
-{
-    match word {
-        Calc::Mul | Calc::Div | Calc::Mod => 1,
-        Calc::Add | Calc::Sub => 2,
-        Calc::Lt | Calc::Le | Calc::Eq | Calc::Ne => 3,
-        Calc::And => 4,
-        Calc::Or => 5,
-        _ => 0,
     }
 }
 

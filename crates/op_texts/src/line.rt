@@ -17,98 +17,66 @@ macro_rules! text {
 /// One line of `text!`.
 #[macro_export]
 macro_rules! text_line {
-    (const $to:literal $value:literal) => { $crate::line::Line::Const { to: $to, value: $value } };
-    (mov $to:literal $from:literal) => { $crate::line::Line::Mov { to: $to, from: $from } };
-    (load $to:literal $block:literal $index:literal) => { $crate::line::Line::Load { to: $to, block: $block, index: $index } };
-    (store $block:literal $index:literal $value:literal) => { $crate::line::Line::Store { block: $block, index: $index, value: $value } };
-    (alloc $to:literal $len:literal) => { $crate::line::Line::Alloc { to: $to, len: $len } };
-    (free $block:literal) => { $crate::line::Line::Free { block: $block } };
-    (call [$($to:literal),*] $name:literal [$($arg:literal),*]) => { $crate::line::Line::Call { to: &[$($to),*], name: $name, args: &[$($arg),*] } };
-    (if $test:literal) => { $crate::line::Line::If { test: $test } };
+    (const $to:literal $value:literal) => { $crate::line::Line::Const($to, $value) };
+    (mov $to:literal $from:literal) => { $crate::line::Line::Mov($to, $from) };
+    (load $to:literal $block:literal $index:literal) => { $crate::line::Line::Load($to, $block, $index) };
+    (store $block:literal $index:literal $value:literal) => { $crate::line::Line::Store($block, $index, $value) };
+    (alloc $to:literal $len:literal) => { $crate::line::Line::Alloc($to, $len) };
+    (free $block:literal) => { $crate::line::Line::Free($block) };
+    (call [$($to:literal),*] $name:literal [$($arg:literal),*]) => { $crate::line::Line::Call(&[$($to),*], $name, &[$($arg),*]) };
+    (if $test:literal) => { $crate::line::Line::If($test) };
     (else) => { $crate::line::Line::Else };
     (end if) => { $crate::line::Line::EndIf };
     (while) => { $crate::line::Line::While };
-    (do $test:literal) => { $crate::line::Line::Do { test: $test } };
+    (do $test:literal) => { $crate::line::Line::Do($test) };
     (end while) => { $crate::line::Line::EndWhile };
-    (add $to:literal $left:literal $right:literal) => { $crate::line::Line::Calc { to: $to, word: target_code::Calc::Add, left: $left, right: $right } };
-    (sub $to:literal $left:literal $right:literal) => { $crate::line::Line::Calc { to: $to, word: target_code::Calc::Sub, left: $left, right: $right } };
-    (mul $to:literal $left:literal $right:literal) => { $crate::line::Line::Calc { to: $to, word: target_code::Calc::Mul, left: $left, right: $right } };
-    (div $to:literal $left:literal $right:literal) => { $crate::line::Line::Calc { to: $to, word: target_code::Calc::Div, left: $left, right: $right } };
-    (mod $to:literal $left:literal $right:literal) => { $crate::line::Line::Calc { to: $to, word: target_code::Calc::Mod, left: $left, right: $right } };
-    (min $to:literal $left:literal $right:literal) => { $crate::line::Line::Calc { to: $to, word: target_code::Calc::Min, left: $left, right: $right } };
-    (max $to:literal $left:literal $right:literal) => { $crate::line::Line::Calc { to: $to, word: target_code::Calc::Max, left: $left, right: $right } };
-    (lt $to:literal $left:literal $right:literal) => { $crate::line::Line::Calc { to: $to, word: target_code::Calc::Lt, left: $left, right: $right } };
-    (le $to:literal $left:literal $right:literal) => { $crate::line::Line::Calc { to: $to, word: target_code::Calc::Le, left: $left, right: $right } };
-    (eq $to:literal $left:literal $right:literal) => { $crate::line::Line::Calc { to: $to, word: target_code::Calc::Eq, left: $left, right: $right } };
-    (ne $to:literal $left:literal $right:literal) => { $crate::line::Line::Calc { to: $to, word: target_code::Calc::Ne, left: $left, right: $right } };
-    (and $to:literal $left:literal $right:literal) => { $crate::line::Line::Calc { to: $to, word: target_code::Calc::And, left: $left, right: $right } };
-    (or $to:literal $left:literal $right:literal) => { $crate::line::Line::Calc { to: $to, word: target_code::Calc::Or, left: $left, right: $right } };
-    (xor $to:literal $left:literal $right:literal) => { $crate::line::Line::Calc { to: $to, word: target_code::Calc::Xor, left: $left, right: $right } };
-    (shl $to:literal $left:literal $right:literal) => { $crate::line::Line::Calc { to: $to, word: target_code::Calc::Shl, left: $left, right: $right } };
-    (shr $to:literal $left:literal $right:literal) => { $crate::line::Line::Calc { to: $to, word: target_code::Calc::Shr, left: $left, right: $right } };
+    (add $to:literal $left:literal $right:literal) => { $crate::line::Line::Calc($to, target_code::Calc::Add, $left, $right) };
+    (sub $to:literal $left:literal $right:literal) => { $crate::line::Line::Calc($to, target_code::Calc::Sub, $left, $right) };
+    (mul $to:literal $left:literal $right:literal) => { $crate::line::Line::Calc($to, target_code::Calc::Mul, $left, $right) };
+    (div $to:literal $left:literal $right:literal) => { $crate::line::Line::Calc($to, target_code::Calc::Div, $left, $right) };
+    (mod $to:literal $left:literal $right:literal) => { $crate::line::Line::Calc($to, target_code::Calc::Mod, $left, $right) };
+    (min $to:literal $left:literal $right:literal) => { $crate::line::Line::Calc($to, target_code::Calc::Min, $left, $right) };
+    (max $to:literal $left:literal $right:literal) => { $crate::line::Line::Calc($to, target_code::Calc::Max, $left, $right) };
+    (lt $to:literal $left:literal $right:literal) => { $crate::line::Line::Calc($to, target_code::Calc::Lt, $left, $right) };
+    (le $to:literal $left:literal $right:literal) => { $crate::line::Line::Calc($to, target_code::Calc::Le, $left, $right) };
+    (eq $to:literal $left:literal $right:literal) => { $crate::line::Line::Calc($to, target_code::Calc::Eq, $left, $right) };
+    (ne $to:literal $left:literal $right:literal) => { $crate::line::Line::Calc($to, target_code::Calc::Ne, $left, $right) };
+    (and $to:literal $left:literal $right:literal) => { $crate::line::Line::Calc($to, target_code::Calc::And, $left, $right) };
+    (or $to:literal $left:literal $right:literal) => { $crate::line::Line::Calc($to, target_code::Calc::Or, $left, $right) };
+    (xor $to:literal $left:literal $right:literal) => { $crate::line::Line::Calc($to, target_code::Calc::Xor, $left, $right) };
+    (shl $to:literal $left:literal $right:literal) => { $crate::line::Line::Calc($to, target_code::Calc::Shl, $left, $right) };
+    (shr $to:literal $left:literal $right:literal) => { $crate::line::Line::Calc($to, target_code::Calc::Shr, $left, $right) };
 }
 
 /// One line of a text.
 #[derive(Clone, Copy)]
 pub enum Line<'a> {
-    /// Puts a number into a register.
-    Const {
-        to: u32,
-        value: u64,
-    },
-    /// Puts one register's word into another.
-    Mov {
-        to: u32,
-        from: u32,
-    },
-    /// Puts the answer of a calculation into a register.
-    Calc {
-        to: u32,
-        word: Calc,
-        left: u32,
-        right: u32,
-    },
-    /// Reads a word of a block.
-    Load {
-        to: u32,
-        block: u32,
-        index: u32,
-    },
-    /// Writes a word of a block.
-    Store {
-        block: u32,
-        index: u32,
-        value: u32,
-    },
-    /// Claims a block of zeros, and puts its name into a register.
-    Alloc {
-        to: u32,
-        len: u32,
-    },
-    /// Ends a block.
-    Free {
-        block: u32,
-    },
-    /// Calls a procedure.
-    Call {
-        to: &'a [u32],
-        name: &'a [u8],
-        args: &'a [u32],
-    },
-    /// Begins the code for a register that is not 0.
-    If {
-        test: u32,
-    },
-    /// Begins the code for a register that is 0.
+    /// `const`: a register, and the number that it gets.
+    Const(u32, u64),
+    /// `mov`: a register, and the one whose word it gets.
+    Mov(u32, u32),
+    /// A calculation: a register, the word, and the two registers that it is of.
+    Calc(u32, Calc, u32, u32),
+    /// `load`: a register, a block and an index.
+    Load(u32, u32, u32),
+    /// `store`: a block, an index, and the register of the word.
+    Store(u32, u32, u32),
+    /// `alloc`: a register, and that of the length.
+    Alloc(u32, u32),
+    /// `free`: a block.
+    Free(u32),
+    /// `call`: the registers of the results, the procedure, and those of its arguments.
+    Call(&'a [u32], &'a [u8], &'a [u32]),
+    /// Begins the code where this register is not 0.
+    If(u32),
+    /// Begins the code where it is 0.
     Else,
     /// Ends both.
     EndIf,
     /// Begins the code that runs before each test.
     While,
-    /// Begins the code that runs where the register is not 0.
-    Do {
-        test: u32,
-    },
+    /// Begins the code that runs where this register is not 0.
+    Do(u32),
     /// Ends both.
     EndWhile,
 }
@@ -188,14 +156,9 @@ fn put(alloc: Global, codes: Vec<OpenCode>, line: Line<'_>) -> Result<Vec<OpenCo
     ensures { IfOk result (λ next. open_of next.items ≡ put (open_of codes.items) line.entry) }
 {
     match line {
-        Line::Const { to, value } => add(codes, Instr::Const { to, value }),
-        Line::Mov { to, from } => add(codes, Instr::Mov { to, from }),
-        Line::Calc {
-            to,
-            word,
-            left,
-            right,
-        } => add(
+        Line::Const(to, value) => add(codes, Instr::Const { to, value }),
+        Line::Mov(to, from) => add(codes, Instr::Mov { to, from }),
+        Line::Calc(to, word, left, right) => add(
             codes,
             Instr::Calc {
                 to,
@@ -204,12 +167,8 @@ fn put(alloc: Global, codes: Vec<OpenCode>, line: Line<'_>) -> Result<Vec<OpenCo
                 right,
             },
         ),
-        Line::Load { to, block, index } => add(codes, Instr::Load { to, block, index }),
-        Line::Store {
-            block,
-            index,
-            value,
-        } => add(
+        Line::Load(to, block, index) => add(codes, Instr::Load { to, block, index }),
+        Line::Store(block, index, value) => add(
             codes,
             Instr::Store {
                 block,
@@ -217,16 +176,16 @@ fn put(alloc: Global, codes: Vec<OpenCode>, line: Line<'_>) -> Result<Vec<OpenCo
                 value,
             },
         ),
-        Line::Alloc { to, len } => add(codes, Instr::Alloc { to, len }),
-        Line::Free { block } => add(codes, Instr::Free { block }),
-        Line::Call { to, name, args } => match call(alloc, to, name, args) {
+        Line::Alloc(to, len) => add(codes, Instr::Alloc { to, len }),
+        Line::Free(block) => add(codes, Instr::Free { block }),
+        Line::Call(to, name, args) => match call(alloc, to, name, args) {
             Ok(instr) => add(codes, instr),
             Err(error) => {
                 drop(codes);
                 Err(error)
             }
         },
-        Line::If { test } | Line::Do { test } => begin(alloc, codes, test),
+        Line::If(test) | Line::Do(test) => begin(alloc, codes, test),
         Line::Else | Line::While => begin(alloc, codes, 0),
         Line::EndIf => end_if(codes),
         Line::EndWhile => end_while(codes),

@@ -40,7 +40,7 @@ module _ {A B : Type 0} (N : Notes A) (M : Notes B) (f : A → B) (is : IsMap N 
   cut_map Freed n a b s h e = refl
   cut_map (Live ws) n a b s h e = leaf_map a b s _ e
 
-  perform_map : (room : Room) (a : A) (e : Act) (h : Heap) (x : ℕ) → answer_map f (perform N room a e h x) ≡ perform M room (f a) e h x
+  pub perform_map : (room : Room) (a : A) (e : Act) (h : Heap) (x : ℕ) → answer_map f (perform N room a e h x) ≡ perform M room (f a) e h x
   perform_map room a (Go s) h x = leaf_map _ _ s h (is.after a (Go s) x)
   perform_map room a (Read b i k) h x = read_map (h.cells b) i _ _ k h (is.after a (Read b i k) x)
   perform_map room a (Write b i v s) h x = write_map (h.cells b) b i v _ _ s h (is.after a (Write b i v s) x)

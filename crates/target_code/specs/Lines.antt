@@ -61,7 +61,7 @@ abbrev pub branch_below : ℕ → Branch → Bool
 branch_below regs b = all_below regs b.to && (all_below regs b.args && (hands_below regs b.hands && hands_below regs b.lends))
 
 -- the registers of an instruction are below a number, and its constant is a word
-abbrev pub is_below : ℕ → Layer → Bool
+abbrev pub is_below : {A B : Type 0} → ℕ → Open.Instr-F A B → Bool
 is_below regs (Open.Const to v) = nat_lt to regs && nat_lt v (2 ^ 64)
 is_below regs (Open.Mov to from) = nat_lt to regs && nat_lt from regs
 is_below regs (Open.Calc to word l r) = nat_lt to regs && (nat_lt l regs && nat_lt r regs)

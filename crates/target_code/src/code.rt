@@ -3,6 +3,7 @@
 ghost use Rattle.std.specs.Prelude.{◌≡◌, ◌++◌, length, nat_eq};
 ghost use Rattle.std.specs.List.{list_any};
 ghost use Rattle.target_code.specs.Reserved.{are_distinct};
+ghost use Rattle.target_code.specs.declared.tree.Instr.{out-Instr};
 ghost use Rattle.target_code.specs.Lines as spec;
 
 use crate::tree::{Branch, Code, Hand, Instr, Proc};
@@ -74,22 +75,9 @@ pub fn branch_below(limit: u32, branch: &Branch) -> bool
         && hands_below(limit, branch.lends.as_slice())
 }
 
-/// Whether each register of the code is below the limit.
-#[cycle(below)]
-pub fn code_below(limit: u32, code: &Code) -> bool
-    ensures { result ≡ spec.code_passes (spec.is_below limit) code.now }
-{
-    for item in code.list.as_slice() {
-        if !instr_below(limit, item) {
-            return false;
-        }
-    }
-    true
-}
-
-#[cycle(below)]
-fn instr_below(limit: u32, instr: &Instr) -> bool
-    ensures { result ≡ spec.instr_passes (spec.is_below limit) instr.now }
+/// Whether the registers of the line of an instruction are below the limit, apart from those in its blocks.
+pub fn line_below(limit: u32, instr: &Instr) -> bool
+    ensures { result ≡ spec.is_below limit (out-Instr instr.now) }
 {
     match instr {
         Instr::Const { to, value } => {
@@ -111,16 +99,39 @@ fn instr_below(limit: u32, instr: &Instr) -> bool
         } => *block < limit && *index < limit && *value < limit,
         Instr::Alloc { to, len } => *to < limit && *len < limit,
         Instr::Free { block } => *block < limit,
-        Instr::If { test, yes, no } => {
-            *test < limit && code_below(limit, yes) && code_below(limit, no)
-        }
-        Instr::While { cond, test, body } => {
-            *test < limit && code_below(limit, cond) && code_below(limit, body)
-        }
+        Instr::If { test, .. } | Instr::While { test, .. } => *test < limit,
         Instr::Call { to, proc: _, args } => {
             all_below(limit, to.as_slice()) && all_below(limit, args.as_slice())
         }
         Instr::Par { left, right } => branch_below(limit, left) && branch_below(limit, right),
+    }
+}
+
+/// Whether each register of the code is below the limit.
+#[cycle(below)]
+pub fn code_below(limit: u32, code: &Code) -> bool
+    ensures { result ≡ spec.code_passes (spec.is_below limit) code.now }
+{
+    for item in code.list.as_slice() {
+        if !instr_below(limit, item) {
+            return false;
+        }
+    }
+    true
+}
+
+#[cycle(below)]
+fn instr_below(limit: u32, instr: &Instr) -> bool
+    ensures { result ≡ spec.instr_passes (spec.is_below limit) instr.now }
+{
+    match instr {
+        Instr::If { yes, no, .. } => {
+            line_below(limit, instr) && code_below(limit, yes) && code_below(limit, no)
+        }
+        Instr::While { cond, body, .. } => {
+            line_below(limit, instr) && code_below(limit, cond) && code_below(limit, body)
+        }
+        _ => line_below(limit, instr),
     }
 }
 

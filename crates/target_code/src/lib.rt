@@ -7,7 +7,7 @@ mod name;
 mod text;
 mod tree;
 
-pub use code::{all_below, branch_below, hand_below, hands_below};
+pub use code::{all_below, branch_below, hand_below, hands_below, line_below};
 pub use formed::is_formed;
 pub use name::{Name, NameRefusal, RESERVED, is_reserved};
 pub use text::{push_indent, push_number, push_rep};

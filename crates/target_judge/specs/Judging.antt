@@ -102,22 +102,8 @@ instr_fits (Open.Call to name args) = callee_fits name args && are_distinct nat_
 instr_fits (Open.Par l r) = callee_fits l.proc l.args && (callee_fits r.proc r.args && are_distinct nat_eq (l.to ++ r.to))
 instr_fits _ = true
 
--- the registers of the line itself
-abbrev pub line_below : {A B : Type 0} → ℕ → Open.Instr-F A B → Bool
-line_below regs (Open.Const to v) = nat_lt to regs && nat_lt v (2 ^ 64)
-line_below regs (Open.Mov to from) = nat_lt to regs && nat_lt from regs
-line_below regs (Open.Calc to word l r) = nat_lt to regs && (nat_lt l regs && nat_lt r regs)
-line_below regs (Open.Load to b i) = nat_lt to regs && (nat_lt b regs && nat_lt i regs)
-line_below regs (Open.Store b i v) = nat_lt b regs && (nat_lt i regs && nat_lt v regs)
-line_below regs (Open.Alloc to len) = nat_lt to regs && nat_lt len regs
-line_below regs (Open.Free b) = nat_lt b regs
-line_below regs (Open.If t c d) = nat_lt t regs
-line_below regs (Open.While c t d) = nat_lt t regs
-line_below regs (Open.Call to name args) = tests.all_below regs to && tests.all_below regs args
-line_below regs (Open.Par l r) = tests.branch_below regs l && tests.branch_below regs r
-
 abbrev pub code_fits : Phrase → ℕ → Bool
-code_fits (phrase.Plain i) regs = line_below regs (out-Instr i) && instr_fits (out-Instr i)
+code_fits (phrase.Plain i) regs = tests.is_below regs (out-Instr i) && instr_fits (out-Instr i)
 code_fits (phrase.If t) regs = nat_lt t regs
 code_fits phrase.While regs = nat_le 1 regs
 code_fits (phrase.Do t) regs = nat_lt t regs

@@ -14,7 +14,7 @@ use crate::told::Told;
 use indexmap::IndexSet;
 use std::alloc::{AllocError, Global};
 use target_code::{
-    InParam, Instr, Name, NameRefusal, Proc, Rep, all_below, branch_below, is_reserved,
+    InParam, Instr, Name, NameRefusal, Proc, Rep, all_below, is_reserved, line_below,
 };
 use target_lines::line::Phrase;
 
@@ -114,41 +114,6 @@ fn is_header(procs: &[Proc], name: &[u8], args: u32, regs: u32, told: &Told) -> 
         && args <= regs
         && regs <= 8_388_608
         && has_room(regs, told.results.number_of(name))
-}
-
-// ---- registers
-
-/// Whether the registers of the line of an instruction are below the limit.
-fn line_below(limit: u32, instr: &Instr) -> bool
-    ensures { result ≡ spec.line_below limit (out-Instr instr.now) }
-{
-    match instr {
-        Instr::Const { to, value } => {
-            let _word = *value;
-            *to < limit
-        }
-        Instr::Mov { to, from } => *to < limit && *from < limit,
-        Instr::Calc {
-            to,
-            word: _,
-            left,
-            right,
-        } => *to < limit && *left < limit && *right < limit,
-        Instr::Load { to, block, index } => *to < limit && *block < limit && *index < limit,
-        Instr::Store {
-            block,
-            index,
-            value,
-        } => *block < limit && *index < limit && *value < limit,
-        Instr::Alloc { to, len } => *to < limit && *len < limit,
-        Instr::Free { block } => *block < limit,
-        Instr::If { test, .. } => *test < limit,
-        Instr::While { test, .. } => *test < limit,
-        Instr::Call { to, proc: _, args } => {
-            all_below(limit, to.as_slice()) && all_below(limit, args.as_slice())
-        }
-        Instr::Par { left, right } => branch_below(limit, left) && branch_below(limit, right),
-    }
 }
 
 // ---- calls

@@ -17,7 +17,7 @@ use Rattle.target_lines.specs.declared.line.Phrase.TheVariants as phrase
 use Rattle.target_lines.proofs.Pieces.{and_parts}
 use Rattle.target_lines.specs.Programs.{line, instr_lines, code_lines, items_lines, is_flat}
 use Rattle.target_judge.specs.Told.{Kind}
-use Rattle.target_judge.specs.Judging.{instr_tells, instr_fits, line_below, code_fits, code_tells, next_width}
+use Rattle.target_judge.specs.Judging.{instr_tells, instr_fits, code_fits, code_tells, next_width}
 use Rattle.target_text.proofs.Passing.{IsCode, AreCode, AreOf}
 use Rattle.target_text.proofs.CodeLines.{layer, flat_at}
 use Rattle.target_text.proofs.ShapesBack.{code_out, lines_roll}
@@ -127,7 +127,7 @@ while_passes p c t d first other known n =
 
 -- an instruction of one line
 record FineLayer (p : Place) (x : Open.Instr-F Instr Code) : Type 0 where
-  fits : (line_below p.regs x && instr_fits x) ≡ true
+  fits : (tests.is_below p.regs x && instr_fits x) ≡ true
   tells : AllByRecursion (λ f. p.numbers f.kind f.name ≡ f.number) (instr_tells x)
 
 flat_passes : (p : Place) (x : Open.Instr-F Instr Code) → is_flat x ≡ true → (KnowsLayer p x → FineLayer p x) → Passes p (roll-Instr x)

@@ -16,7 +16,7 @@ use Rattle.target_lines.specs.Programs.{procs_lend}
 use Rattle.target_judge.specs.Numbers.{Numbers, number_of, have_numbers}
 use Rattle.target_judge.specs.Told.{Args, Results, Given, Input, lookup}
 use Rattle.target_judge.specs.Taking.{Spot, Between, Inside, Ended, no_proc, state}
-use Rattle.target_judge.specs.Judging.{Judged, is_input, instr_fits, line_below, callee_fits, main_name, is_whole, program_of}
+use Rattle.target_judge.specs.Judging.{Judged, is_input, instr_fits, callee_fits, main_name, is_whole, program_of}
 use Rattle.target_text.proofs.Steps.{Table, table}
 use Rattle.target_text.proofs.Sound.{Rules, test, instr_known, call_known, has, has_is}
 use Rattle.target_text.proofs.SoundLines.{Placed, InputAt, ProcAt, BetweenOk, StateOk}
@@ -99,7 +99,7 @@ call_answered N lends procs name args to h closed known =
     answered N lends 0 procs name args to h (closed name (length args) takes) takes (has_is (N Results name) (length to) parts.1)
 
 known_of : (g : Rules) (x : tests.Layer) → test g x ≡ true → instr_known g.numbers x ≡ true
-known_of g x k = (and_parts (line_below g.regs x && instr_fits x) (instr_known g.numbers x) k).1
+known_of g x k = (and_parts (tests.is_below g.regs x && instr_fits x) (instr_known g.numbers x) k).1
 
 calls_weaker : (lends : Bool) (g : Rules) (procs : List Proc) → Placed (ProcAt g.numbers lends) 0 procs → Closed g.numbers procs → Weaker (test g) (tests.calls_met procs)
 calls_weaker lends g procs h closed (Open.Call to name args) k = call_answered g.numbers lends procs name args to h closed (known_of g (Open.Call to name args) k)
@@ -108,21 +108,8 @@ calls_weaker lends g procs h closed (Open.Par l r) k =
     both_true (call_answered g.numbers lends procs l.proc l.args l.to h closed both.0) (call_answered g.numbers lends procs r.proc r.args r.to h closed both.1)
 calls_weaker lends g procs h closed _ k = refl
 
-fits_of : (g : Rules) (x : tests.Layer) → test g x ≡ true → (line_below g.regs x ≡ true) × (instr_fits x ≡ true)
-fits_of g x k = and_parts (line_below g.regs x) (instr_fits x) (and_parts (line_below g.regs x && instr_fits x) (instr_known g.numbers x) k).0
-
-below_same : (regs : ℕ) (x : tests.Layer) → line_below regs x ≡ true → tests.is_below regs x ≡ true
-below_same regs (Open.Const to v) h = h
-below_same regs (Open.Mov to from) h = h
-below_same regs (Open.Calc to c l r) h = h
-below_same regs (Open.Load to b i) h = h
-below_same regs (Open.Store b i v) h = h
-below_same regs (Open.Alloc to len) h = h
-below_same regs (Open.Free b) h = h
-below_same regs (Open.If t c d) h = h
-below_same regs (Open.While c t d) h = h
-below_same regs (Open.Call to name args) h = h
-below_same regs (Open.Par l r) h = h
+fits_of : (g : Rules) (x : tests.Layer) → test g x ≡ true → (tests.is_below g.regs x ≡ true) × (instr_fits x ≡ true)
+fits_of g x k = and_parts (tests.is_below g.regs x) (instr_fits x) (and_parts (tests.is_below g.regs x && instr_fits x) (instr_known g.numbers x) k).0
 
 distinct_same : (x : tests.Layer) → instr_fits x ≡ true → tests.has_distinct_targets x ≡ true
 distinct_same (Open.Call to name args) h = (and_parts (callee_fits name args) (are_distinct nat_eq to) h).1
@@ -166,7 +153,7 @@ formed_state N lends w ins outs procs ok some closed =
       procs_distinct = numbered_distinct (λ p. p.name) (N Given) 0 procs (placed_as (ProcAt N lends) (λ m p. N Given p.name ≡ Some m) 0 procs (λ m p h. h.1) at);
       main_first = main_is N lends w ins outs procs some at ok.spot;
       sizes = all has_sizes 0 procs (λ m p h. both_true h.0.sizes h.0.limit) at;
-      registers = all has_registers 0 procs (λ m p h. both_true (code_instead (test (own N lends p)) (tests.is_below p.regs) (λ x k. below_same p.regs x (fits_of (own N lends p) x k).0) p.code h.0.passes) h.0.ret) at;
+      registers = all has_registers 0 procs (λ m p h. both_true (code_instead (test (own N lends p)) (tests.is_below p.regs) (λ x k. (fits_of (own N lends p) x k).0) p.code h.0.passes) h.0.ret) at;
       calls = all (λ p. tests.code_passes (tests.calls_met procs) p.code) 0 procs (λ m p h. code_instead (test (own N lends p)) (tests.calls_met procs) (calls_weaker lends (own N lends p) procs at closed) p.code h.0.passes) at;
       targets = all (λ p. tests.code_passes tests.has_distinct_targets p.code) 0 procs (λ m p h. code_instead (test (own N lends p)) tests.has_distinct_targets (λ x k. distinct_same x (fits_of (own N lends p) x k).1) p.code h.0.passes) at;
       blocks = all (λ p. tests.code_nests p.code 0) 0 procs (λ m p h. h.0.nests) at;

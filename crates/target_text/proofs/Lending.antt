@@ -22,7 +22,7 @@ use Rattle.target_judge.specs.declared.told.Told.{Told}
 use Rattle.target_judge.specs.Shape.{code_of}
 use Rattle.target_judge.specs.Told.{Kind, Args, Results, Given, Input, lookup}
 use Rattle.target_judge.specs.Taking.{Between, state}
-use Rattle.target_judge.specs.Judging.{judged, line_below, instr_fits, instr_tells}
+use Rattle.target_judge.specs.Judging.{judged, instr_fits, instr_tells}
 use Rattle.target_text.specs.Runs.{judge_all}
 use Rattle.target_text.proofs.Passing.{IsCode, AreCode, IsNext}
 use Rattle.target_text.proofs.CodeLines.{flat_lines}
@@ -58,7 +58,7 @@ code_ok : (numbers : Kind → List ℕ → ℕ) (x : List ℕ) (n : ℕ) → is_
 unfolding side
 code_ok numbers x n named args results =
     let is : both x ≡ out-Instr (shared x) = sym (outs-Par (side x) (side x)) in
-    let P : Open.Instr-F Instr Code → Type 0 = λ y. (line_below 1 y && instr_fits y) ≡ true in
+    let P : Open.Instr-F Instr Code → Type 0 = λ y. (tests.is_below 1 y && instr_fits y) ≡ true in
     let Q : Open.Instr-F Instr Code → Type 0 = λ y. AllByRecursion (λ f. numbers f.kind f.name ≡ f.number) (instr_tells y) in
     record {
       fits = subst P is (both_true refl (both_true (both_true named refl) (both_true (both_true named refl) refl)));

@@ -17,7 +17,7 @@ use Rattle.target_lines.specs.declared.line.Phrase.TheVariants as phrase
 use Rattle.target_lines.specs.Programs.{is_flat, open_lends, phrase_lends, some_true, instr_lends, code_lends, instr_lends_step, code_lends_step}
 use Rattle.target_judge.specs.Shape.{code_of, Frame, Yes, No, Cond, Body, Place, place, guard, turns, goes, level_of, take_at, takes}
 use Rattle.target_judge.specs.Told.{Args, Results}
-use Rattle.target_judge.specs.Judging.{line_below, instr_fits, code_fits, code_tells, instr_tells}
+use Rattle.target_judge.specs.Judging.{instr_fits, code_fits, code_tells, instr_tells}
 use Rattle.target_text.proofs.FormedLines.{passes_roll, lends_roll}
 use Rattle.target_text.proofs.ShapesBack.{nests_roll}
 use Rattle.target_text.proofs.Steps.{Table, Facts}
@@ -38,7 +38,7 @@ instr_known N (Open.Par l r) = call_known N l.proc l.args l.to && call_known N r
 instr_known N _ = true
 
 abbrev pub instr_ok : {A B : Type 0} → Table → ℕ → Open.Instr-F A B → Bool
-instr_ok N regs x = (line_below regs x && instr_fits x) && instr_known N x
+instr_ok N regs x = (tests.is_below regs x && instr_fits x) && instr_known N x
 
 -- with these numbers, in a procedure with so many registers, where lends are shown or not
 pub record Rules : Type 0 where

@@ -20,7 +20,7 @@ use Rattle.target_judge.specs.declared.told.Told.{Told}
 use Rattle.target_judge.specs.Shape.{Frame, Place, place, guard, takes, and_then}
 use Rattle.target_judge.specs.Told.{Kind, Args, Results, Given, Input, Fact, lookup, tell_all}
 use Rattle.target_judge.specs.Taking.{Header, Spot, Between, Inside, Ended, State, state, take_line, take_between, take_ret, take_inside, take_end, proc_of}
-use Rattle.target_judge.specs.Judging.{most_registers, main_name, has_room, may_be_main, is_header, callee_fits, instr_fits, line_below, instr_tells, head_tells, code_tells, tells_at, head_fits, code_fits, line_fits}
+use Rattle.target_judge.specs.Judging.{most_registers, main_name, has_room, may_be_main, is_header, callee_fits, instr_fits, instr_tells, head_tells, code_tells, tells_at, head_fits, code_fits, line_fits}
 use Rattle.target_text.proofs.ProcJudged.{room_left}
 use Rattle.target_text.proofs.Steps.{table, Kept, Facts, Each, told_all, only_these}
 use Rattle.target_text.proofs.SoundLines.{BetweenOk, StateOk}
@@ -121,7 +121,7 @@ instr_claims u _ told fits = tt
 
 code_claims : (u : Told) (p : Phrase) (name : List ℕ) (regs n : ℕ) → Facts (table u) (code_tells p name) → code_fits p regs ≡ true → lookup Args name u ≡ Some n → AllByRecursion (λ y. CodeClaim u y.kind y.name y.number) (code_tells p name)
 code_claims u (phrase.Plain i) name regs n told fits known =
-    instr_claims u (out-Instr i) told (and_parts (line_below regs (out-Instr i)) (instr_fits (out-Instr i)) fits).1
+    instr_claims u (out-Instr i) told (and_parts (tests.is_below regs (out-Instr i)) (instr_fits (out-Instr i)) fits).1
 code_claims u (phrase.Ret rs) name regs n told fits known = (there (lookup Args name u) n known, tt)
 code_claims u _ name regs n told fits known = tt
 
@@ -219,7 +219,7 @@ Fitting name regs Input other n = Unit {0}
 branch_to : (regs : ℕ) (b : Branch) → tests.branch_below regs b ≡ true → tests.all_below regs b.to ≡ true
 branch_to regs b h = (and_parts (tests.all_below regs b.to) (tests.all_below regs b.args && (tests.hands_below regs b.hands && tests.hands_below regs b.lends)) h).0
 
-instr_rooms : (name : List ℕ) (regs : ℕ) (x : Open.Instr-F Instr Code) → line_below regs x ≡ true → AllByRecursion (λ y. Fitting name regs y.kind y.name y.number) (instr_tells x)
+instr_rooms : (name : List ℕ) (regs : ℕ) (x : Open.Instr-F Instr Code) → tests.is_below regs x ≡ true → AllByRecursion (λ y. Fitting name regs y.kind y.name y.number) (instr_tells x)
 instr_rooms name regs (Open.Call to callee args) h = (tt, ((λ e. room_left regs (length to) to (and_parts (tests.all_below regs to) (tests.all_below regs args) h).0 refl), tt))
 instr_rooms name regs (Open.Par l r) h =
     let both = and_parts (tests.branch_below regs l) (tests.branch_below regs r) h in
@@ -227,7 +227,7 @@ instr_rooms name regs (Open.Par l r) h =
 instr_rooms name regs _ h = tt
 
 code_rooms : (name : List ℕ) (regs : ℕ) (p : Phrase) (own : List ℕ) → code_fits p regs ≡ true → AllByRecursion (λ y. Fitting name regs y.kind y.name y.number) (code_tells p own)
-code_rooms name regs (phrase.Plain i) own h = instr_rooms name regs (out-Instr i) (and_parts (line_below regs (out-Instr i)) (instr_fits (out-Instr i)) h).0
+code_rooms name regs (phrase.Plain i) own h = instr_rooms name regs (out-Instr i) (and_parts (tests.is_below regs (out-Instr i)) (instr_fits (out-Instr i)) h).0
 code_rooms name regs (phrase.Ret rs) own h = ((λ e. room_left regs (length rs) rs h refl), tt)
 code_rooms name regs _ own h = tt
 

@@ -76,20 +76,20 @@ go_on-returns-in_default t c = record {
 
 pub go_on-returns-then-looseness-loosest-clause-reads : goal.go_on-returns-then-looseness-loosest-clause-reads
 go_on-returns-then-looseness-loosest-clause-reads t c = λ k.
-    c.signs.invariant.reads k then exprs.stays (record { next = c.peek.ensures.next }) (exprs.other_sign c.if-loosest-eq0.false c.in-Sign.is c.looseness.ensures c.if-looseness-loosest.true)
+    c.signs.invariant.reads k then exprs.stays (record { next = c.peek.ensures.next }) (exprs.other_sign c.if-loosest-eq0.false c.in-Sign.is c.looseness.ensures.value c.if-looseness-loosest.true)
 
 pub go_on-returns-in_err-spend-clause-reads : goal.go_on-returns-in_err-spend-clause-reads
 go_on-returns-in_err-spend-clause-reads t c =
     exits _ _ _ c.from_residual-in_err-spend.ensures.1 (λ n k.
     c.signs.invariant.reads k
     fails going.fails_there c.peek.ensures.next c.in_err-spend.ensures.1
-    (exprs.joins_deep (record { next = c.peek.ensures.next }) c.in_err-spend.ensures.0 c.in-Sign.is (exprs.this_sign _ c.if-loosest-eq0.false c.looseness.ensures c.if-looseness-loosest.false)))
+    (exprs.joins_deep (record { next = c.peek.ensures.next }) c.in_err-spend.ensures.0 c.in-Sign.is (exprs.this_sign _ c.if-loosest-eq0.false c.looseness.ensures.value c.if-looseness-loosest.false)))
 
 pub go_on-returns-in_err-right-clause-reads : goal.go_on-returns-in_err-right-clause-reads
 go_on-returns-in_err-right-clause-reads t c =
     exits _ _ _ c.from_residual-in_err-right.ensures.1 (λ n k.
     c.signs.invariant.reads k
-    then exprs.joins (going.pays c.peek.ensures.next c.in_ok-spend.ensures c.take.ensures.rest c.take.ensures.operators) c.in-Sign.is (exprs.this_sign _ c.if-loosest-eq0.false c.looseness.ensures c.if-looseness-loosest.false)
+    then exprs.joins (going.pays c.peek.ensures.next c.in_ok-spend.ensures c.take.ensures.rest c.take.ensures.operators) c.in-Sign.is (exprs.this_sign _ c.if-loosest-eq0.false c.looseness.ensures.value c.if-looseness-loosest.false)
     fails c.in_err-right.ensures.reads n _)
 
 pub go_on-returns-then-loosest-eq3-clause-reads : goal.go_on-returns-then-loosest-eq3-clause-reads
@@ -97,7 +97,7 @@ go_on-returns-then-loosest-eq3-clause-reads t c = λ k.
     let e = c.in_ok-sum-2.ensures in
     let only : c.args.loosest - 1 ≡ 2 = omega arith in
     rw e (c.signs.invariant.reads k
-    then exprs.joins (going.pays c.peek.ensures.next c.in_ok-spend.ensures c.take.ensures.rest c.take.ensures.operators) c.in-Sign.is (exprs.this_sign _ c.if-loosest-eq0.false c.looseness.ensures c.if-looseness-loosest.false)
+    then exprs.joins (going.pays c.peek.ensures.next c.in_ok-spend.ensures c.take.ensures.rest c.take.ensures.operators) c.in-Sign.is (exprs.this_sign _ c.if-loosest-eq0.false c.looseness.ensures.value c.if-looseness-loosest.false)
     then c.in_ok-right.ensures.reads (exprs.behind_right (c.args.loosest - 1) c.args.place c.signs.sum c.in-Sign.word k)
     then exprs.compared _ _ _ only)
 
@@ -108,7 +108,7 @@ go_on-signs-preserved t c = record {
       let e = c.in_ok-sum-2.ensures in
       let other : c.args.loosest - 1 ≢ 2 = omega arith in
       rw e (c.signs.invariant.reads k
-      then exprs.joins (going.pays c.peek.ensures.next c.in_ok-spend.ensures c.take.ensures.rest c.take.ensures.operators) c.in-Sign.is (exprs.this_sign _ c.if-loosest-eq0.false c.looseness.ensures c.if-looseness-loosest.false)
+      then exprs.joins (going.pays c.peek.ensures.next c.in_ok-spend.ensures c.take.ensures.rest c.take.ensures.operators) c.in-Sign.is (exprs.this_sign _ c.if-loosest-eq0.false c.looseness.ensures.value c.if-looseness-loosest.false)
       then c.in_ok-right.ensures.reads (exprs.behind_right (c.args.loosest - 1) c.args.place c.signs.sum c.in-Sign.word k)
       then exprs.chained _ _ other);
 }
