@@ -1,4 +1,3 @@
 pub mod TextPasses
 pub mod LibraryLemmas
 pub mod SoundRows
-pub mod FirstRowLemmas

@@ -1,5 +1,4 @@
 pub mod Library
-pub mod FirstRow
 pub mod RowProcedures
 pub mod Sound
 pub mod Laws

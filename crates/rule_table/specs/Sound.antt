@@ -9,6 +9,7 @@ use Rattle.nres_core.specs.declared.row.RowCode.{RowCode}
 use Rattle.nres_core.specs.declared.row.RowCode.TheVariants as c
 use Rattle.rule_check.specs.Table as table
 use Rattle.rule_check.specs.Table.{Take, rep_of}
+use Rattle.row_index.specs.Index.{own_kind}
 use Rattle.target_code.specs.declared.tree.Proc.{Proc}
 use Rattle.target_code.specs.declared.tree.Rep.{Rep}
 use Rattle.target_meaning.specs.Leaf.{find}
@@ -28,15 +29,6 @@ gives_at u (x ∷ xs) = rep_of x u ∷ gives_at u xs
 abbrev pub fact_at : ℕ → Option ℕ → Option (ℕ × ℕ)
 fact_at u None = None
 fact_at u (Some i) = Some (i, u)
-
--- the kind that a row is of: what it makes, or its first argument
-abbrev pub first_kind : List Take → Kind
-first_kind [] = k.Word
-first_kind (t ∷ ts) = t.kind
-
-abbrev pub own_kind : Option Kind → List Take → Kind
-own_kind None ts = first_kind ts
-own_kind (Some x) ts = x
 
 -- the bound, where there is one, is the procedure's first argument
 abbrev pub bound_first : ℕ → Kind → List ℕ

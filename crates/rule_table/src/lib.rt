@@ -1,6 +1,9 @@
-//! The table of rule rows with the library: all rows are sound, the library is closed under its calls, and the first row
-//! that fits an operation.
+//! The table of rule rows with the library: all rows are sound, and the library, as it is made, is closed under its calls.
 #![tactic(auto)]
 
 pub mod laws;
-pub mod rows;
+pub mod procedures;
+
+pub use procedures::library;
+pub use row_index::row_of;
+pub use rule_check::table::RULES;

@@ -1,0 +1,10 @@
+pub mod Tests
+pub mod Runs
+pub mod SlotKeys
+pub mod TableReads
+pub mod TableImages
+pub mod BitImages
+pub mod MapEntries
+pub mod BoundedReads
+pub mod Encodes
+pub mod Exact

@@ -1,0 +1,5 @@
+use Rattle.image_laws.proofs.Exact.{reading_is_exact}
+use Rattle.image_laws.proofs.laws.reading_is_exact.Goals as goal
+
+pub returns : goal.returns
+returns c = reading_is_exact

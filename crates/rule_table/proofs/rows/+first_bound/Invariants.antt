@@ -1,5 +1,0 @@
-use Rattle.std.proofs.Common.{length}
-use Rattle.rule_table.proofs.rows.+first_bound.Given as goal
-
-abbrev pub decreases-first_bound : goal.decreases-first_bound
-decreases-first_bound l = length l.reps.now

@@ -1,4 +1,0 @@
-use Rattle.rule_table.proofs.rows.+takes_these.Given as goal
-
-abbrev pub decreases-takes_these : goal.decreases-takes_these
-decreases-takes_these l = l.count
