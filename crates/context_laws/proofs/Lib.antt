@@ -1,0 +1,3 @@
+pub mod MarksLemmas
+pub mod MeetingLemmas
+pub mod StacksLemmas

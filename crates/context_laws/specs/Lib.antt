@@ -1,0 +1,4 @@
+pub mod Laws
+pub mod Meeting
+pub mod Stacks
+pub mod Steps

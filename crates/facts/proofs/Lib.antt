@@ -1,0 +1,3 @@
+mod KnownLemmas
+mod StackLemmas
+mod ToldLemmas

@@ -1,0 +1,5 @@
+pub mod Entries
+pub mod Faults
+pub mod Marks
+pub mod Sound
+pub mod Tables

@@ -1,0 +1,6 @@
+//! The variables that a block of a flat tree uses.
+#![tactic(auto)]
+
+mod used;
+
+pub use used::{block_uses, without};
