@@ -1,0 +1,9 @@
+pub mod Sizes
+pub mod Held
+pub mod Took
+pub mod Made
+pub mod Legged
+pub mod Stopping
+pub mod Forks
+pub mod Lefts
+pub mod StopsLeft

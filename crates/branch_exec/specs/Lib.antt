@@ -1,0 +1,11 @@
+pub mod Stores
+pub mod Leaves
+pub mod Legs
+pub mod Branches
+pub mod Stops
+pub mod Ends
+pub mod Turned
+pub mod Went
+pub mod Meaning
+pub mod LeftRuns
+pub mod Forks

@@ -1,0 +1,7 @@
+mod Sights
+mod StepTexts
+mod Turning
+mod Following
+mod Racing
+mod Standing
+mod Apart

@@ -1,0 +1,4 @@
+mod Shallow
+mod Tells
+mod Calm
+mod One

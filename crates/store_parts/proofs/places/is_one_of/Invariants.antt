@@ -1,0 +1,7 @@
+use Rattle.std.proofs.Common.{◌≡◌, map, drop}
+use Rattle.target_meaning.specs.Held.{is_among}
+use Rattle.target_meaning.specs.Turns.{part_of}
+use Rattle.store_parts.proofs.places.is_one_of.Given as goal
+
+abbrev pub invariant-loop-other : goal.invariant-loop-other
+invariant-loop-other l = is_among (part_of l.part) (map part_of l.list) ≡ is_among (part_of l.part) (map part_of (drop l.other-index l.list))
