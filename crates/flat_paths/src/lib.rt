@@ -1,0 +1,4 @@
+//! The paths through a flat tree, in the form that a proof about code goes by.
+#![tactic(auto)]
+
+pub mod laws;

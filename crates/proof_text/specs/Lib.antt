@@ -1,0 +1,4 @@
+pub mod Texts
+pub mod Readings
+pub mod Guesses
+pub mod Parts
