@@ -1,0 +1,5 @@
+pub mod Fitted
+pub mod Meant
+pub mod RowShapes
+pub mod Served
+pub mod World

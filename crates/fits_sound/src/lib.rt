@@ -1,0 +1,4 @@
+//! What fits is sound.
+#![tactic(auto)]
+
+pub mod laws;
