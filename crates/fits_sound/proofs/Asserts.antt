@@ -1,13 +1,13 @@
 -- An assert is met by no code.
-use Rattle.std.proofs.Common.{◌≡◌, ℕ, zero, suc, ◌<◌, ◌≤◌, Bool, true, false, cond, ◌&&◌, List, [], ◌∷◌, ◌++◌, refl, sym, ap, ◌∙◌, subst, arith, leb, leb-true, ltb, ltb-true, ⊎_elim, ◌⊎◌, inl, inr}
+use Rattle.std.proofs.Common.{◌≡◌, ℕ, suc, ◌<◌, ◌≤◌, true, false, ◌&&◌, List, [], ◌∷◌, refl, sym, ap, ◌∙◌, subst, arith, leb, leb-true, ltb-true, ⊎_elim}
 use Rattle.std.proofs.lemmas.Bool.{and_parts, false≢true}
-use Rattle.flat_paths.specs.Paths.{Fault, Excess, Stop, Stops, never, only, may, on_truth, paths, Halts}
+use Rattle.flat_paths.specs.Paths.{Fault, Stops, never, only, may, on_truth, paths}
 use Rattle.flat_paths.proofs.Single.{may_go_wrong, may_give_one, calc_settles, settled_value}
 use Rattle.flat_paths.proofs.Unfold.{paths_assert, paths_calc, paths_apply}
 use Rattle.nres_core.specs.FlatTree as t
 use Rattle.nres_core.specs.FlatTree.{Binds}
 use Rattle.nres_core.specs.Ops.{calc_out, op_out}
-use Rattle.nres_core.specs.Runs.{Done, Fails, Gives}
+use Rattle.nres_core.specs.Runs.{Done, Gives}
 use Rattle.nres_core.specs.declared.flat.Arg.{Arg}
 use Rattle.nres_core.specs.declared.flat.Arg.TheVariants as a
 use Rattle.nres_core.specs.declared.place.Place.{Place}
@@ -19,14 +19,13 @@ use Rattle.nres_meaning.specs.Meaning.{head_of, tail_of}
 use Rattle.target_code.specs.declared.tree.Proc.{Proc}
 use Rattle.rule_check.specs.Context.{Def}
 use Rattle.rule_check.specs.Facts.{defs_in, learnt}
-use Rattle.fits.specs.Places.{Entry, State, put}
-use Rattle.fits.specs.Follow.{is_old, is_plain, past_plain, past, rises, asserted, fit, Line, OnFound}
-use Rattle.fits_sound.specs.Meant.{Facts, Defs, Old_arg, Among, Below, Inv, Ctx}
-use Rattle.fits_sound.specs.World.{World, Live}
-use Rattle.fits_sound.proofs.Basic.{put_same, put_below, arg_same, old_more, facts_same, facts_more, defs_same, below_more, le_then}
-use Rattle.fits_sound.proofs.Found.{To, need_elim}
+use Rattle.fits.specs.Follow.{is_old, is_plain, past_plain, past, rises, asserted}
+use Rattle.fits_sound.specs.Meant.{Defs, Old_arg}
+use Rattle.fits_sound.specs.World.{World}
+use Rattle.fits_sound.proofs.Basic.{put_same, put_below, arg_same, old_more, facts_more, defs_same, below_more, le_then}
+use Rattle.fits_sound.proofs.Found.{need_elim}
 use Rattle.fits_sound.proofs.Somes.{op_some}
-use Rattle.fits_sound.proofs.Sound.{Goes, Met, Sound, facts-append}
+use Rattle.fits_sound.proofs.Sound.{Met, Sound, facts-append}
 use Rattle.fits_sound.proofs.Take.{among_below}
 use Rattle.fits_sound.proofs.Told.{learnt_hold, hold_facts}
 

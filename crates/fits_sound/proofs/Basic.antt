@@ -1,5 +1,5 @@
 -- Tokens of registers, and entries.
-use Rattle.std.proofs.Common.{◌≡◌, ◌≢◌, ℕ, suc, ◌-◌, ◌^◌, ◌<◌, ◌≤◌, Bool, true, false, not, List, [], ◌∷◌, map, length, refl, sym, ap, ◌∙◌, subst, arith, eqb, eqb-true, eq-eqb, ne_eqb, ⊎_elim, ◌⊎◌, inl, inr, ltb, ltb-true, lt-ltb, le-ltb, ◌&&◌, ◌||◌}
+use Rattle.std.proofs.Common.{◌≡◌, ◌≢◌, ℕ, suc, ◌-◌, ◌^◌, ◌<◌, ◌≤◌, Bool, true, false, not, List, [], ◌∷◌, map, length, refl, sym, ap, ◌∙◌, subst, arith, eqb, eqb-true, eq-eqb, ne_eqb, ⊎_elim, ltb, ltb-true, lt-ltb, le-ltb, ◌&&◌, ◌||◌}
 use Rattle.std.proofs.lemmas.Bool.{cond-true, cond-false, and_parts}
 use Rattle.std.proofs.lemmas.Bool.Decides.{eqb_tells}
 use Rattle.std.proofs.lemmas.List.{length-set, get_or-set_same, get_or-set_other}
@@ -8,7 +8,6 @@ use Rattle.nres_core.specs.Ops.{calc_out}
 use Rattle.nres_core.specs.Runs.{Done}
 use Rattle.nres_core.specs.declared.flat.Arg.{Arg}
 use Rattle.nres_core.specs.declared.flat.Arg.TheVariants as a
-use Rattle.nres_core.specs.declared.value.Value.{Value}
 use Rattle.nres_meaning.specs.FlatMeaning.{Vars, arg_value}
 use Rattle.target_meaning.specs.Leaf.{read_all, put_all}
 use Rattle.target_meaning.specs.Piece.{Piece, plus, IsAllWhole}

@@ -1,7 +1,7 @@
 -- A block, up to its end: its results are related, nothing that was made in it is left.
 use Rattle.std.proofs.Common.{◌≡◌, ℕ, ◌≤◌, Bool, true, false, ◌&&◌, ◌||◌, not, List, [], ◌∷◌, map, length, refl, sym, ap, ◌∙◌, subst, arith, ltb, ◌⊎◌, ⊎_elim, inl, inr}
 use Rattle.std.proofs.lemmas.Bool.{and_parts, cond_both, cond-true, cond-false}
-use Rattle.std.specs.Prelude.{Option, Some, Ok}
+use Rattle.std.specs.Prelude.{Option, Some}
 use Rattle.flat_paths.specs.Paths.{never, paths}
 use Rattle.nres_core.specs.FlatTree.{Binds, Ending}
 use Rattle.nres_core.specs.declared.flat.Arg.{Arg}
@@ -18,12 +18,12 @@ use Rattle.rule_check.specs.Facts.{defs_in}
 use Rattle.rule_check.specs.Steps.{ended}
 use Rattle.start_ends.specs.Things.{Wholes}
 use Rattle.fits.specs.Places.{Entry, State, Info, arg_infos, all_words, all_vars, info_shapes, hold_words, none_left, old_shapes, goners, ctx_of, with_hold}
-use Rattle.fits.specs.Follow.{Line, OnFound, Answer, Walk, fit, block, end_block, end_test, at_end_of, with_some, with_ok, need, and_then, all_below, Found}
+use Rattle.fits.specs.Follow.{Line, OnFound, Answer, fit, block, end_block, end_test, at_end_of, with_some, with_ok, need, and_then, all_below, Found}
 use Rattle.fits_sound.specs.World.{World, Code_run, Within, Live}
 use Rattle.fits_sound.specs.Meant.{All_rel, Dyn, word, at_hold, live, Below, Rels, Parts_kept, Known, Ctx, Inv, Tagged, older}
 use Rattle.fits_sound.proofs.Found.{To, need_elim, some_elim, ok_elim, both_elim, end_found, then_found, found_is}
 use Rattle.fits_sound.proofs.Basic.{some_is, words_read, agree_same, live_same, older_all}
-use Rattle.fits_sound.proofs.Take.{All_among, All_wanted, sum_vars, args_of, no_piece, owned_there, kept_less, less_gone, goners_piece, vars_whole}
+use Rattle.fits_sound.proofs.Take.{args_of, no_piece, owned_there, kept_less, less_gone, goners_piece, vars_whole}
 use Rattle.fits_sound.proofs.Spots.{Moves, moves}
 use Rattle.fits_sound.proofs.Rows.{rehold}
 use Rattle.fits_sound.proofs.Pass.{Passing, any_state, passed}

@@ -11,8 +11,8 @@ use Rattle.relations.specs.Represents.{Represents}
 use Rattle.row_laws.specs.Rows.{Thing, values_of, words_of, pieces_of}
 use Rattle.rule_check.specs.Context.{Shape}
 use Rattle.start_ends.specs.Things.{Wholes}
-use Rattle.fits.specs.Places.{Token, Of, Entry, State, tokens_from, fresh, all_fresh, old_shape, old_shapes, in_order, bind_entry, bind_all}
-use Rattle.fits_sound.specs.Meant.{All_rel, Dyn, word, Olds, Agree, Ctx, Tag, Tag_at, Tagged}
+use Rattle.fits.specs.Places.{Token, Entry, State, tokens_from, fresh, all_fresh, old_shape, old_shapes, in_order, bind_entry, bind_all}
+use Rattle.fits_sound.specs.Meant.{All_rel, Dyn, word, Olds, Agree, Ctx, Tagged}
 use Rattle.fits_sound.proofs.Basic.{put_same, agree_same, agree_then, olds_more, words_agree, bind_dyn, bind_agree, bind_ctx, old_shape_more, old_shapes_more, tag_agree, tagged_agree}
 
 abbrev pub grow : Dyn → List ℕ → List Thing → Dyn

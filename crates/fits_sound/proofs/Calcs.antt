@@ -1,14 +1,14 @@
 -- A line `calc` is met.
-use Rattle.std.proofs.Common.{◌≡◌, ℕ, suc, ◌+◌, ◌<◌, ◌≤◌, ◌%◌, true, List, [], ◌∷◌, ◌++◌, refl, sym, ap, ◌∙◌, subst, Bool, false, not, ◌||◌, ◌&&◌, cond, eqb, ltb, ltb-true, leb, leb-true, arith}
+use Rattle.std.proofs.Common.{◌≡◌, ℕ, suc, ◌+◌, ◌<◌, ◌≤◌, ◌%◌, true, List, [], ◌∷◌, ◌++◌, refl, sym, ap, ◌∙◌, subst, Bool, false, not, ◌||◌, ◌&&◌, eqb, ltb, ltb-true, leb, leb-true, arith}
 use Rattle.std.proofs.lemmas.Bool.{and_parts, cond_both}
 use Rattle.std.proofs.Math.Nat.{mod-lt}
-use Rattle.std.specs.Prelude.{Option, Some, slice_index, slice_set}
-use Rattle.flat_paths.specs.Paths.{Fault, Stops, never, only, may, paths, Halts}
+use Rattle.std.specs.Prelude.{Some, slice_index, slice_set}
+use Rattle.flat_paths.specs.Paths.{Fault, Stops, never, only, may, paths}
 use Rattle.flat_paths.proofs.Single.{may_go_wrong}
 use Rattle.flat_paths.proofs.Unfold.{paths_calc}
 use Rattle.nres_core.specs.FlatTree.{Binds, Calc_to}
 use Rattle.nres_core.specs.Ops.{calc_out, fail_if}
-use Rattle.nres_core.specs.Runs.{Runs, Done, Failed, Over, Choose, Fails}
+use Rattle.nres_core.specs.Runs.{Runs, Done, Fails}
 use Rattle.nres_core.specs.declared.flat.Arg.{Arg}
 use Rattle.nres_core.specs.declared.flat.Arg.TheVariants as a
 use Rattle.nres_core.specs.declared.place.Place.{Place}
@@ -27,20 +27,20 @@ use Rattle.triple_logic.specs.Laws.{End_fact, at_code}
 use Rattle.triple_logic.specs.Safe.{at_code_end}
 use Rattle.relations.specs.Represents.{Represents}
 use Rattle.row_laws.specs.Rows.{Thing, IsBelow}
-use Rattle.rule_check.specs.Context.{Fact, Def, Shape, is_slice}
-use Rattle.rule_check.specs.Facts.{calc_tells, rest_tells, positive, below, defs_in}
+use Rattle.rule_check.specs.Context.{Fact, Shape, is_slice}
+use Rattle.rule_check.specs.Facts.{calc_tells, below, defs_in}
 use Rattle.rule_check.specs.Steps.{bare, calc_rep}
 use Rattle.fits.specs.Places.{Entry, State, Info, put, arg_info, hold_words, old_shapes, in_order, bind_at, with_facts}
-use Rattle.fits.specs.Follow.{Line, Answer, OnFound, fit, all_below, def_of}
+use Rattle.fits.specs.Follow.{Line, Answer, OnFound, all_below, def_of}
 use Rattle.fits_sound.specs.World.{World, Code_run, Live}
-use Rattle.fits_sound.specs.Meant.{Dyn, Inv, Facts, Defs, Old_arg, Among, Below, Tagged}
+use Rattle.fits_sound.specs.Meant.{Dyn, Inv, Facts, Old_arg, Below, Tagged}
 use Rattle.fits_sound.proofs.Found.{To, need_elim, some_elim, head_elim, both_elim, calc_line_found, calc_own_found}
-use Rattle.fits_sound.proofs.Basic.{words_read, le_then, facts_same, defs_same, put_below, put_same, arg_same, some_is}
+use Rattle.fits_sound.proofs.Basic.{words_read, le_then, put_same, arg_same}
 use Rattle.fits_sound.proofs.Bound.{grow}
-use Rattle.fits_sound.proofs.Take.{One, one, none_whole, arg_among, among_below}
+use Rattle.fits_sound.proofs.Take.{one, none_whole, arg_among, among_below}
 use Rattle.fits_sound.proofs.Pass.{Passing, any_state, passed}
 use Rattle.fits_sound.proofs.Straight.{calc_law, same_calc_is}
-use Rattle.fits_sound.proofs.Sound.{Goes, Met, Sound, arrived, bound_later, bound_defs, refacted, facts-append}
+use Rattle.fits_sound.proofs.Sound.{Goes, Met, Sound, arrived, bound_later, refacted, facts-append}
 
 -- an argument that has an entry is of an old variable
 pub arg_old : (n : ℕ) (es : List Entry) (u : Arg) (i : Info) → Below n es → arg_info es u ≡ Some i → Old_arg n u

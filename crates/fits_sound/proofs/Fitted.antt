@@ -1,8 +1,6 @@
 -- Code that fits is safe, and bounded: both instances of the theorem.
-use Rattle.std.proofs.Common.{◌≡◌, ℕ, ◌≤◌, List, [], subst, sym, refl, ap}
-use Rattle.flat_paths.specs.Paths.{Lives, never, paths}
-use Rattle.target_code.specs.declared.tree.Instr.{Instr}
-use Rattle.target_code.specs.declared.tree.Proc.{Proc}
+use Rattle.std.proofs.Common.{◌≡◌, ℕ, List, [], subst, sym, refl}
+use Rattle.flat_paths.specs.Paths.{Lives}
 use Rattle.target_meaning.specs.Leaf.{do_all}
 use Rattle.target_meaning.specs.Piece.{Piece}
 use Rattle.triple_logic.specs.Laws.{End_fact, at_code}
@@ -10,11 +8,10 @@ use Rattle.triple_logic.specs.Safe.{at_code_end}
 use Rattle.run_laws.specs.RunLaws.{Laws}
 use Rattle.run_laws.proofs.BoundedLaws.{bounded_laws}
 use Rattle.run_laws.proofs.SafeLaws.{safe_laws}
-use Rattle.fits.specs.Places.{Entry, State}
-use Rattle.fits.specs.Follow.{Line}
+use Rattle.fits.specs.Places.{Entry}
 use Rattle.fits_sound.specs.Fitted.{Comes, Fitted, IsSafe, IsBounded}
 use Rattle.fits_sound.specs.Meant.{Dyn, Inv}
-use Rattle.fits_sound.specs.World.{World, Code_run, Within, Live}
+use Rattle.fits_sound.specs.World.{World}
 use Rattle.fits_sound.proofs.Found.{To, on_is}
 use Rattle.fits_sound.proofs.Sound.{Met}
 use Rattle.fits_sound.proofs.Whole.{sound}

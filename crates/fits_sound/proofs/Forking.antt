@@ -1,7 +1,7 @@
 -- A fork: what is handed and lent, and the two branches with what follows them.
 use Rattle.std.proofs.Common.{◌≡◌, ℕ, zero, suc, ◌+◌, ◌-◌, ◌<◌, ◌≤◌, Bool, true, false, cond, ◌&&◌, ◌||◌, not, List, [], ◌∷◌, ◌++◌, map, length, replicate, refl, sym, ap, ◌∙◌, subst, arith, append-nil, leb-true, length-append}
 use Rattle.std.proofs.lemmas.List.{length-replicate}
-use Rattle.std.proofs.lemmas.Bool.{and_parts, cond_both, cond-true, cond-false}
+use Rattle.std.proofs.lemmas.Bool.{and_parts, cond_both, cond-true}
 use Rattle.std.specs.Prelude.{Option, Some, slice_index, slice_set, nat_le}
 use Rattle.nres_core.specs.FlatTree.{Binds}
 use Rattle.nres_core.specs.declared.flat.Arg.{Arg}
@@ -22,10 +22,10 @@ use Rattle.triple_logic.proofs.Parts.{fork_left, fork_right, fork_kept, fork_fin
 use Rattle.layout_facts.proofs.Contents.{half_keeps, rest_keeps}
 use Rattle.row_laws.specs.Rows as rows
 use Rattle.row_laws.specs.Rows.{Thing, values_of, words_of}
-use Rattle.rule_check.specs.Context.{Hold, Kept, Shape, is_owned, is_gone, is_container}
+use Rattle.rule_check.specs.Context.{Hold, Kept, Shape, is_owned, is_container}
 use Rattle.run_laws.specs.RunLaws.{fork_wait}
 use Rattle.start_ends.specs.Things.{Wholes}
-use Rattle.fits.specs.Places.{Token, Number, Of, Entry, State, Info, arg_infos, arg_tokens, info_shapes, old_shape, old_shapes}
+use Rattle.fits.specs.Places.{Token, Number, Of, Entry, State, Info, arg_infos, arg_tokens, old_shape, old_shapes}
 use Rattle.fits.specs.Follow.{branch_entries, share_entry, is_there, pick, both, one, there_all, hands_are}
 use Rattle.fits_sound.specs.World.{World, Code_run, Live}
 use Rattle.fits_sound.specs.Meant.{All_rel, Dyn, word, at_hold, live, Old, Below, Rels, Shares, Parts_kept, Known, Inv, Tagged, Facts, Defs}

@@ -1,5 +1,5 @@
 -- What the branches of a fork begin with, and that its hands and lends can be taken.
-use Rattle.std.proofs.Common.{◌≡◌, ℕ, zero, suc, ◌+◌, ◌-◌, ◌^◌, ◌<◌, ◌≤◌, Bool, true, false, cond, ◌&&◌, ◌||◌, not, List, [], ◌∷◌, ◌++◌, map, refl, sym, ap, ◌∙◌, subst, arith, eqb, eqb-true, eq-eqb, ltb-true, leb-true, ◌⊎◌, ⊎_elim, inl, inr}
+use Rattle.std.proofs.Common.{◌≡◌, ℕ, zero, suc, ◌+◌, ◌-◌, ◌^◌, ◌<◌, Bool, true, false, cond, ◌&&◌, ◌||◌, List, [], ◌∷◌, ◌++◌, map, refl, sym, ap, ◌∙◌, subst, arith, eqb, eqb-true, eq-eqb, ltb-true, leb-true, ⊎_elim, inl, inr}
 use Rattle.std.proofs.lemmas.Bool.{and_parts, cond_both, cond-true, cond-false}
 use Rattle.std.specs.Prelude.{Option, Some, None, nat_lt, nat_le}
 use Rattle.target_code.specs.Formed as formed
@@ -15,10 +15,10 @@ use Rattle.relations.specs.Represents.{Represents}
 use Rattle.layout_facts.specs.Footprints.{Keeps}
 use Rattle.layout_facts.proofs.Contents.{keeps_itself}
 use Rattle.layout_facts.proofs.Facts.{kept_by, rest_too, lies_inside, is_full, can_hand, can_be_lent}
-use Rattle.rule_check.specs.Context.{Hold, Owned, Kept, Gone, is_owned, is_container}
+use Rattle.rule_check.specs.Context.{Hold, Kept, is_owned, is_container}
 use Rattle.fits.specs.Places.{Entry}
-use Rattle.fits.specs.Follow.{is_there, pick, there_all, share_entry, branch_entries}
-use Rattle.fits_sound.specs.Meant.{Least, Dyn, word, at_hold, live, Below, Rels, Apart_if, Apart_parts, Share, Shares, Parts_kept}
+use Rattle.fits.specs.Follow.{pick, share_entry, branch_entries}
+use Rattle.fits_sound.specs.Meant.{Least, Dyn, word, live, Below, Rels, Apart_if, Apart_parts, Share, Shares, Parts_kept}
 use Rattle.fits_sound.proofs.Basic.{below_more}
 use Rattle.fits_sound.proofs.Take.{same_container, no_piece}
 use Rattle.fits_sound.proofs.Sharing.{keep, Used_there, part_of, there_hold, outs_one, Ready, All_ready, Away, Pairs, Outs, Insides, Sub, named, Clear, All_clear, out_named}

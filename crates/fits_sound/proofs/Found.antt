@@ -1,5 +1,5 @@
 -- What was found: each test was met.
-use Rattle.std.proofs.Common.{◌≡◌, ℕ, Bool, true, false, ◌&&◌, List, [], ◌∷◌, refl, sym, subst, bytes_eq, ap, eqb-true, ◌==◌}
+use Rattle.std.proofs.Common.{◌≡◌, ℕ, Bool, true, false, ◌&&◌, List, [], ◌∷◌, refl, sym, subst, bytes_eq}
 use Rattle.std.specs.Prelude.{Option, Some, None, Result, Ok, Err}
 use Rattle.target_code.specs.declared.tree.Instr.{Instr, out-Instr, Instr-F}
 use Rattle.target_code.specs.declared.tree.Instr.TheOpen as I

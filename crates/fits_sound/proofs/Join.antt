@@ -1,49 +1,35 @@
 -- Two ways that meet: what they come to, and what follows from there.
-use Rattle.std.proofs.Common.{◌≡◌, ℕ, zero, suc, ◌+◌, ◌<◌, ◌≤◌, Bool, true, false, cond, List, [], ◌∷◌, map, length, max, refl, sym, ap, ◌∙◌, subst, arith, ltb-true, ◌⊎◌, ⊎_elim, inl, inr, eqb, eqb-true, ◌++◌}
+use Rattle.std.proofs.Common.{◌≡◌, ℕ, zero, suc, ◌<◌, ◌≤◌, true, false, cond, List, [], ◌∷◌, map, length, max, refl, sym, ap, ◌∙◌, subst, arith, ltb-true, ◌⊎◌, inl, inr, eqb, eqb-true}
 use Rattle.std.proofs.lemmas.Bool.{and_parts, cond_both}
 use Rattle.std.specs.Prelude.{Option, Some, None, slice_index, slice_set, nat_eq}
-use Rattle.flat_paths.specs.Paths.{Stop, Fault, Excess, Stops, never, only, may, on_truth, paths, Halts, IsWithin}
+use Rattle.flat_paths.specs.Paths.{Fault, Excess, Stops, never, only, may, on_truth, paths, Halts}
 use Rattle.flat_paths.proofs.MayBe.{may_map}
-use Rattle.flat_paths.proofs.Rises.{lift, raise, stop_first, Top, top}
-use Rattle.flat_paths.proofs.Turns.{truth_map}
-use Rattle.flat_paths.proofs.Unfold.{paths_if}
-use Rattle.nres_core.specs.FlatTree.{Binds, Ending, If}
+use Rattle.flat_paths.proofs.Rises.{top}
+use Rattle.nres_core.specs.FlatTree.{Binds}
 use Rattle.nres_core.specs.Ops.{truth_out}
-use Rattle.nres_core.specs.declared.flat.Arg.{Arg}
-use Rattle.nres_core.specs.declared.place.Place as places
 use Rattle.nres_core.specs.declared.value.Value.{Value}
 use Rattle.nres_core.specs.declared.value.Value.TheVariants as v
-use Rattle.nres_meaning.specs.FlatMeaning.{Vars, arg_value, arg_values, puts}
-use Rattle.target_code.specs.declared.tree.Code.{Code}
-use Rattle.target_code.specs.declared.tree.Instr.{Instr, out-Instr}
-use Rattle.target_code.specs.declared.tree.Instr.TheOpen as I
+use Rattle.nres_meaning.specs.FlatMeaning.{Vars, puts}
+use Rattle.target_code.specs.declared.tree.Instr.{Instr}
 use Rattle.target_code.specs.declared.tree.Proc.{Proc}
 use Rattle.target_code.specs.declared.tree.Rep.{Rep}
 use Rattle.target_code.specs.declared.tree.Rep.TheVariants as rep
-use Rattle.target_meaning.specs.Leaf.{Do, do_all, read_all, put_all}
-use Rattle.target_meaning.specs.Lines.{lines_of, second_line}
+use Rattle.target_meaning.specs.Leaf.{do_all, read_all, put_all}
 use Rattle.target_meaning.specs.Piece.{Piece, plus}
-use Rattle.triple_logic.specs.Laws.{End_fact, at_code}
-use Rattle.triple_logic.specs.Safe.{at_code_end}
+use Rattle.triple_logic.specs.Laws.{End_fact}
 use Rattle.relations.specs.Represents.{Represents}
 use Rattle.row_laws.specs.Rows.{Thing, values_of, words_of, pieces_of}
-use Rattle.rule_check.specs.Context.{Hold, Owned, Kept, Gone, Fact, Shape, is_owned, rep_number, bound_in, same_number, same_rep, same_shape}
-use Rattle.rule_check.specs.Facts.{learnt, defs_in, defs_behind}
-use Rattle.rule_check.specs.Steps.{no_list}
+use Rattle.rule_check.specs.Context.{Hold, Owned, Kept, Gone, Shape, is_owned, rep_number, bound_in, same_number, same_rep, same_shape}
 use Rattle.start_ends.specs.Things.{Wholes}
-use Rattle.fits.specs.Places.{Token, Number, Of, Entry, State, Info, same_shapes, same_hold, same_holds, has_token, both_tokens, arg_info, arg_infos, info_shapes, hold_words, all_fresh, old_shapes, in_order, with_facts, with_branch, begun_state, bind_at}
-use Rattle.fits.specs.Follow.{Line, Answer, OnFound, fit, met_state, all_below}
+use Rattle.fits.specs.Places.{Token, Number, Of, Entry, State, same_shapes, same_hold, same_holds, has_token, both_tokens, all_fresh, old_shapes, in_order, bind_at}
+use Rattle.fits.specs.Follow.{all_below}
 use Rattle.fits_sound.specs.World.{World, Code_run, Within, Live}
 use Rattle.fits_sound.specs.Meant.{All_rel, Dyn, word, at_hold, live, Olds, Below, Rels, Shares, Parts_kept, Agree, Known, Ctx, Inv, Tagged, Facts, Defs, older}
-use Rattle.fits_sound.proofs.Found.{To, need_elim, some_elim, head_elim, if_line_elim, if_own_elim, both_elim, then_found}
-use Rattle.fits_sound.proofs.Basic.{le_then, has_is, old_more, words_read, below_more, rels_agree, shares_agree, agree_then, old_shapes_more, facts_more, defs_same}
+use Rattle.fits_sound.proofs.Found.{To}
+use Rattle.fits_sound.proofs.Basic.{le_then, has_is, below_more, rels_agree, shares_agree, agree_then, facts_more, defs_same}
 use Rattle.fits_sound.proofs.Bound.{grow, grow_values, same_count}
-use Rattle.fits_sound.proofs.Take.{One, one, among_below}
-use Rattle.fits_sound.proofs.Told.{learnt_hold, behind_defs, hold_facts}
 use Rattle.fits_sound.proofs.Straight.{one_truth}
-use Rattle.fits_sound.proofs.Pass.{Passing, any_state, passed}
-use Rattle.fits_sound.proofs.Block.{Block_end, Block_met, rebase, block_sound}
-use Rattle.fits_sound.proofs.Sound.{Goes, Met, Sound, arrived, bound_later, bound_defs, refacted, facts-append}
+use Rattle.fits_sound.proofs.Sound.{Goes, Met, arrived}
 
 -- ---- numbers of turns
 

@@ -11,8 +11,10 @@ mod Found
 mod Join
 mod Lending
 mod Loop
+mod Mains
 mod Orders
 mod Parallel
+mod Params
 mod Pass
 mod Regs
 mod Rows

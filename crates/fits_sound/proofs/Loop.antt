@@ -1,15 +1,15 @@
 -- A line `while` is met.
-use Rattle.std.proofs.Common.{◌≡◌, ℕ, zero, suc, ◌+◌, ◌-◌, ◌<◌, ◌≤◌, Bool, true, false, cond, ◌&&◌, ◌||◌, not, List, [], ◌∷◌, map, length, max, refl, sym, ap, ◌∙◌, subst, arith, ltb, ltb-true, lt-ltb, ltb-false, le-ltb, ◌⊎◌, ⊎_elim, ◌++◌}
-use Rattle.std.proofs.lemmas.Bool.{and_parts, cond_both, cond-true, cond-false}
-use Rattle.std.specs.Prelude.{Option, Some, None, Ok, slice_index, nat_lt}
-use Rattle.flat_paths.specs.Paths.{Stop, Fault, Excess, Stops, never, only, may, on_truth, paths, Halts, Lives}
+use Rattle.std.proofs.Common.{◌≡◌, ℕ, zero, suc, ◌+◌, ◌-◌, ◌<◌, ◌≤◌, true, false, ◌&&◌, ◌||◌, not, List, [], ◌∷◌, map, length, max, refl, sym, ap, ◌∙◌, subst, arith, ltb-true, ◌⊎◌, ⊎_elim}
+use Rattle.std.proofs.lemmas.Bool.{and_parts, cond_both}
+use Rattle.std.specs.Prelude.{Option, Some, None, slice_index, nat_lt}
+use Rattle.flat_paths.specs.Paths.{never, paths}
 use Rattle.flat_paths.proofs.Turns.{HeadCame, start_came, test_lives, body_lives, turn_left, leaves, turn_came, head_lives}
 use Rattle.nres_core.specs.FlatTree.{Binds, Ending, While}
 use Rattle.nres_core.specs.declared.flat.Arg.{Arg}
 use Rattle.nres_core.specs.declared.place.Place as places
 use Rattle.nres_core.specs.declared.value.Value.{Value}
 use Rattle.nres_core.specs.declared.value.Value.TheVariants as v
-use Rattle.nres_meaning.specs.FlatMeaning.{Vars, arg_value, arg_values, puts}
+use Rattle.nres_meaning.specs.FlatMeaning.{Vars, arg_value, puts}
 use Rattle.target_code.specs.declared.tree.Code.{Code}
 use Rattle.target_code.specs.declared.tree.Instr.{Instr, out-Instr}
 use Rattle.target_code.specs.declared.tree.Instr.TheOpen as I
@@ -22,24 +22,23 @@ use Rattle.triple_logic.specs.Laws.{End_fact}
 use Rattle.relations.specs.Represents.{Represents}
 use Rattle.row_laws.specs.Rows.{Thing, values_of, words_of, pieces_of}
 use Rattle.run_laws.specs.RunLaws.{Lower}
-use Rattle.rule_check.specs.Context.{Hold, Owned, Kept, Gone, Shape, is_owned, is_gone, is_container}
+use Rattle.rule_check.specs.Context.{Hold, Owned, Kept, Gone, Shape, is_owned}
 use Rattle.rule_check.specs.Facts.{learnt, defs_in}
 use Rattle.rule_check.specs.Steps.{started, no_list}
-use Rattle.fits.specs.Places.{Token, Entry, State, Info, same_shapes, same_holds, keeps_token, keep_tokens, lent, arg_info, arg_infos, all_words, all_vars, all_fresh, info_shapes, hold_words, none_left, old_shapes, in_order, goners, ctx_of, with_facts, bind_at}
-use Rattle.fits.specs.Follow.{Line, Answer, OnFound, fit, head_toks, head_base, loop_head, in_test, in_body, left_state, line_regs, all_below}
+use Rattle.fits.specs.Places.{Token, Entry, State, Info, same_shapes, same_holds, keeps_token, keep_tokens, lent, arg_info, arg_infos, all_words, all_vars, all_fresh, info_shapes, hold_words, in_order, goners, ctx_of, bind_at}
+use Rattle.fits.specs.Follow.{Answer, OnFound, head_toks, head_base, loop_head, in_test, in_body, left_state, line_regs, all_below}
 use Rattle.fits.specs.Written.{loop_writes, is_one_of}
-use Rattle.fits_sound.specs.World.{World, Code_run, Within, Live}
-use Rattle.fits_sound.specs.Meant.{All_rel, Dyn, word, at_hold, live, Old, Olds, Below, Parts_kept, Agree, Known, Inv, Tagged, Facts, Defs, older}
+use Rattle.fits_sound.specs.World.{World, Code_run, Live}
+use Rattle.fits_sound.specs.Meant.{All_rel, Dyn, word, at_hold, live, Old, Olds, Parts_kept, Agree, Known, Inv, Tagged, Defs}
 use Rattle.fits_sound.proofs.Found.{To, need_elim, some_elim, ok_elim, head_elim, while_line_elim, while_own_elim, both_elim, then_found}
-use Rattle.fits_sound.proofs.Basic.{le_then, has_is, old_more, words_read, words_agree, agree_same, agree_then, live_same, old_shapes_more, tagged_agree, back_agree, below_more, rels_agree, shares_agree, facts_more}
+use Rattle.fits_sound.proofs.Basic.{le_then, has_is, old_more, words_read, words_agree, agree_same, agree_then, old_shapes_more, tagged_agree, back_agree, below_more, rels_agree, shares_agree, facts_more}
 use Rattle.fits_sound.proofs.Bound.{grow, grow_values, same_count}
-use Rattle.fits_sound.proofs.Take.{All_among, All_wanted, sum_vars, one, Args, args_of, owned_there, kept_less, less_gone, goners_piece, vars_whole, among_below}
+use Rattle.fits_sound.proofs.Take.{one, Args, args_of, owned_there, kept_less, less_gone, goners_piece, vars_whole, among_below}
 use Rattle.fits_sound.proofs.Spots.{Moves, starts_move}
 use Rattle.fits_sound.proofs.Told.{learnt_hold, hold_facts}
-use Rattle.fits_sound.proofs.Rows.{rehold}
 use Rattle.fits_sound.proofs.Pass.{Passing, any_state, passed}
 use Rattle.fits_sound.proofs.Block.{Block_end, Block_met, rebase, block_sound, test_sound}
-use Rattle.fits_sound.proofs.Join.{le_same, max_left, max_right, within_max, Side, side_of, Refused, refused_stops, same_shapes_is, same_live, known_words, Joined, Leads, place, join}
+use Rattle.fits_sound.proofs.Join.{le_same, max_left, max_right, within_max, Side, side_of, Refused, same_shapes_is, same_live, known_words, Joined, Leads, place, join}
 use Rattle.fits_sound.proofs.Sound.{Goes, Met, Sound, bound_later, bound_defs, facts-append}
 
 -- ---- holds and tokens

@@ -1,5 +1,5 @@
 -- Hands name entries in any order.
-use Rattle.std.proofs.Common.{◌≡◌, ℕ, Bool, true, false, cond, ◌&&◌, ◌||◌, List, [], ◌∷◌, map, refl, sym, ap, ◌∙◌, subst, eqb, eq-eqb, ◌⊎◌, ⊎_elim, inl, inr}
+use Rattle.std.proofs.Common.{◌≡◌, ℕ, Bool, true, false, ◌&&◌, ◌||◌, List, [], ◌∷◌, map, refl, sym, ap, ◌∙◌, subst, eqb, eq-eqb, ◌⊎◌, ⊎_elim, inl, inr}
 use Rattle.std.proofs.lemmas.Bool.{and_parts, cond_both}
 use Rattle.std.specs.Prelude.{Option, Some, None, slice_index}
 use Rattle.target_code.specs.declared.tree.Hand.{Hand}
@@ -12,14 +12,14 @@ use Rattle.target_meaning.specs.Held.{Take, is_among, same_span}
 use Rattle.target_meaning.proofs.Shares.{plus-comm, plus-assoc}
 use Rattle.triple_logic.specs.Parts.{pieces_of}
 use Rattle.layout_facts.specs.Footprints.{first_word, span_in}
-use Rattle.rule_check.specs.Context.{Hold, is_slice}
+use Rattle.rule_check.specs.Context.{Hold}
 use Rattle.fits.specs.Places.{Token, Entry, has_token}
 use Rattle.fits.specs.Follow as follow
 use Rattle.fits.specs.Follow.{behind, hand_is, hands_are, named_by, on_named, span_is}
 use Rattle.fits_sound.specs.Meant.{Dyn, word, Known}
 use Rattle.fits_sound.proofs.Basic.{has_is, some_is}
 use Rattle.fits_sound.proofs.Forks.{All_full, All_least, parts_in}
-use Rattle.fits_sound.proofs.Sharing.{part_of, Off, All_ready, Away, Pairs, Outs, Insides, named}
+use Rattle.fits_sound.proofs.Sharing.{part_of, Off, All_ready, Away, Pairs, Outs, named}
 
 -- an entry is taken out, and these are left
 abbrev pub Taken : Entry → List Entry → List Entry → Type 0

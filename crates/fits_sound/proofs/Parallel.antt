@@ -1,7 +1,7 @@
 -- A line `par` is met: a container that both sides use is lent to both.
-use Rattle.std.proofs.Common.{◌≡◌, ℕ, suc, ◌+◌, ◌<◌, ◌≤◌, Bool, true, false, cond, ◌&&◌, ◌||◌, List, [], ◌∷◌, ◌++◌, length, max, refl, sym, ap, ◌∙◌, subst, arith, eqb-true, inl, inr, ◌⊎◌, ⊎_elim}
+use Rattle.std.proofs.Common.{◌≡◌, ℕ, suc, ◌+◌, ◌≤◌, Bool, true, false, cond, ◌&&◌, ◌||◌, List, [], ◌∷◌, ◌++◌, length, max, refl, sym, ap, ◌∙◌, subst, arith, eqb-true, inl, inr, ◌⊎◌, ⊎_elim}
 use Rattle.std.proofs.lemmas.Bool.{cond_both}
-use Rattle.std.specs.Prelude.{Option, Some, None, Result, Ok, nat_le, nat_eq, codes}
+use Rattle.std.specs.Prelude.{Option, Some, None, Ok, nat_le, nat_eq, codes}
 use Rattle.flat_paths.specs.Paths.{Excess, Stops, never, only, paths, Halts}
 use Rattle.flat_paths.proofs.Rises.{lift, raise, stop_first, top}
 use Rattle.flat_paths.proofs.Unfold.{paths_par}
@@ -13,12 +13,12 @@ use Rattle.nres_core.specs.declared.refusal.Why.{Why}
 use Rattle.nres_meaning.specs.FlatMeaning.{Vars, arg_values, puts}
 use Rattle.target_code.specs.declared.tree.Instr.{Instr, out-Instr}
 use Rattle.target_code.specs.declared.tree.Proc.{Proc}
-use Rattle.target_meaning.specs.Leaf.{do_all, read_all, put_all, find}
+use Rattle.target_meaning.specs.Leaf.{do_all, put_all, find}
 use Rattle.target_meaning.specs.Lines.{lines_of}
 use Rattle.target_meaning.specs.Piece.{Piece, plus}
 use Rattle.triple_logic.specs.Laws.{End_fact}
 use Rattle.triple_logic.specs.Parts.{half_of, rest_of}
-use Rattle.row_laws.specs.Rows.{Thing, values_of, words_of, pieces_of}
+use Rattle.row_laws.specs.Rows.{values_of, words_of, pieces_of}
 use Rattle.rule_check.specs.Context.{Hold, Spot, Shape, is_container, is_gone, is_among, first_missed, or_else}
 use Rattle.rule_check.specs.Facts.{defs_in}
 use Rattle.rule_check.specs.Steps.{Book, no_list, par_sure, refused}
@@ -26,12 +26,12 @@ use Rattle.rule_check.specs.Use.{block_used}
 use Rattle.rule_check.proofs.Passing.{unless_elim}
 use Rattle.fits.specs.Places.{Entry, State, Info, spots_of, ctx_of, arg_infos, info_shapes, old_shapes, in_order, bind_at}
 use Rattle.fits.specs.Follow.{Answer, OnFound, all_below, uses, both, one, there_all, branch_entries, branch_state, share_entry, after_par}
-use Rattle.fits_sound.specs.World.{World, Code_run, Within, Live}
+use Rattle.fits_sound.specs.World.{World, Code_run, Live}
 use Rattle.fits_sound.specs.Meant.{All_rel, Among, Dyn, live, Inv, Ctx, Facts}
 use Rattle.fits_sound.proofs.Found.{To, need_elim, some_elim, ok_elim, head_elim, both_elim, then_found, par_line_elim, par_own_elim}
 use Rattle.fits_sound.proofs.Basic.{le_then, known_agree, agree_same, below_more, tagged_agree, old_shapes_more, back_agree, facts_more, facts_same, defs_same}
 use Rattle.fits_sound.proofs.Bound.{grow, grow_values, same_count}
-use Rattle.fits_sound.proofs.Block.{Block_end, Block_met, block_sound}
+use Rattle.fits_sound.proofs.Block.{Block_met, block_sound}
 use Rattle.fits_sound.proofs.Join.{le_same, max_left, max_right, within_max}
 use Rattle.fits_sound.proofs.Pass.{Passing, any_state, passed}
 use Rattle.fits_sound.proofs.Sound.{Goes, Met, Sound, arrived, bound_later, bound_defs}

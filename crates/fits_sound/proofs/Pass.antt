@@ -1,10 +1,9 @@
 -- The instructions that may stand anywhere.
-use Rattle.std.proofs.Common.{◌≡◌, ℕ, suc, cond, ◌+◌, ◌<◌, ◌≤◌, Bool, true, false, not, ◌&&◌, List, [], ◌∷◌, map, length, refl, sym, ap, ◌∙◌, subst, arith, ltb-true, inl, inr, ◌⊎◌, ⊎_elim}
+use Rattle.std.proofs.Common.{◌≡◌, ℕ, suc, cond, ◌+◌, ◌<◌, Bool, true, false, not, ◌&&◌, List, [], ◌∷◌, map, length, refl, sym, ap, ◌∙◌, subst, ltb-true, inl, inr, ◌⊎◌, ⊎_elim}
 use Rattle.std.proofs.lemmas.Bool.{and_parts, cond_both}
 use Rattle.std.proofs.lemmas.List.{length-set}
 use Rattle.std.proofs.lemmas.Bool.Decides.{eqb_tells}
 use Rattle.std.specs.Prelude.{Option, Some, None, slice_index, slice_set, nat_lt}
-use Rattle.nres_core.specs.declared.value.Value.{Value}
 use Rattle.target_code.specs.declared.tree.Instr.{Instr, out-Instr, Instr-F}
 use Rattle.target_code.specs.declared.tree.Instr.TheOpen as I
 use Rattle.target_code.specs.declared.tree.Code.{Code}
@@ -13,17 +12,14 @@ use Rattle.target_code.specs.declared.tree.Rep.{Rep}
 use Rattle.target_code.specs.declared.tree.Rep.TheVariants as rep
 use Rattle.target_meaning.specs.Leaf.{Do, do_all, instr_act, Cut, Stack, act}
 use Rattle.target_meaning.specs.Lines.{lines_of}
-use Rattle.target_meaning.specs.Machine.{Heap}
-use Rattle.target_meaning.specs.Piece.{Piece, plus, Holds, IsAllWhole}
-use Rattle.target_meaning.proofs.Shares.{plus-comm}
+use Rattle.target_meaning.specs.Piece.{Piece, plus, IsAllWhole}
 use Rattle.triple_logic.specs.Safe.{Halt, at_code_end}
 use Rattle.triple_logic.specs.Laws.{End_fact, at_code}
 use Rattle.layout_facts.specs.Footprints as footprints
 use Rattle.layout_facts.specs.Footprints.{OneBlock}
 use Rattle.layout_facts.proofs.Facts.{one_block, can_free, freed}
-use Rattle.relations.specs.Represents.{Represents}
 use Rattle.run_laws.specs.RunLaws.{Laws}
-use Rattle.rule_check.specs.Context.{Hold, Gone, is_gone, is_owned, is_container, is_slice}
+use Rattle.rule_check.specs.Context.{Hold, Gone, is_owned, is_container, is_slice}
 use Rattle.fits.specs.Places.{Token, Number, Entry, State, put, with_toks, with_hold}
 use Rattle.fits.specs.Follow.{is_block, Line, Answer, OnFound, Unmet, pass_one, pass_all, pass_until, owner, first_word}
 use Rattle.fits_sound.specs.Meant.{Dyn, word, live, Old, Rels, Inv, Among}

@@ -1,6 +1,6 @@
 -- A line `reg` is met: a variable is one with a word of another.
-use Rattle.std.proofs.Common.{◌≡◌, ℕ, suc, ◌≤◌, ◌<◌, ◌^◌, true, List, [], ◌∷◌, refl, sym, ap, ◌∙◌, subst, arith, leb-true}
-use Rattle.std.specs.Prelude.{Option, Some, slice_index}
+use Rattle.std.proofs.Common.{◌≡◌, ℕ, suc, ◌≤◌, ◌<◌, ◌^◌, List, [], ◌∷◌, refl, sym, ap, ◌∙◌, subst, arith, leb-true}
+use Rattle.std.specs.Prelude.{Option, Some}
 use Rattle.flat_paths.specs.Paths.{never, only, paths}
 use Rattle.nres_core.specs.FlatTree.{Binds, Apply_to}
 use Rattle.nres_core.specs.Ops.{op_out}
@@ -8,7 +8,6 @@ use Rattle.nres_core.specs.Runs.{Gives}
 use Rattle.nres_core.specs.declared.flat.Arg.{Arg}
 use Rattle.nres_core.specs.declared.op.Op.{Op}
 use Rattle.nres_core.specs.declared.place.Place.{Place}
-use Rattle.nres_core.specs.declared.value.Value.{Value}
 use Rattle.nres_core.specs.declared.value.Value.TheVariants as v
 use Rattle.nres_meaning.specs.FlatMeaning.{arg_values, puts}
 use Rattle.target_code.specs.declared.tree.Instr.{Instr}

@@ -1,8 +1,8 @@
 -- A line `row` is met, for every table of rows that is sound with the library.
-use Rattle.std.proofs.Common.{◌≡◌, ℕ, suc, ◌+◌, ◌<◌, ◌≤◌, Bool, true, false, List, [], ◌∷◌, length, refl, sym, ap, ◌∙◌, subst, inl, inr, ◌⊎◌, arith, map, ◌&&◌, ◌++◌}
+use Rattle.std.proofs.Common.{◌≡◌, ℕ, suc, ◌+◌, ◌<◌, ◌≤◌, true, false, List, [], ◌∷◌, length, refl, sym, ap, ◌∙◌, subst, map, ◌++◌}
 use Rattle.std.proofs.lemmas.Slice.Eq.{bytes_eq-Decides}
-use Rattle.std.specs.Prelude.{Option, Some, None, Ok}
-use Rattle.flat_paths.specs.Paths.{Fault, Stops, never, only, may, paths}
+use Rattle.std.specs.Prelude.{Option, Some}
+use Rattle.flat_paths.specs.Paths.{Fault, Stops, never, only, paths}
 use Rattle.flat_paths.proofs.Single.{may_give_one, may_go_wrong}
 use Rattle.flat_paths.proofs.Unfold.{paths_apply}
 use Rattle.nres_core.specs.FlatTree.{Binds, Apply_to}
@@ -12,8 +12,6 @@ use Rattle.nres_core.specs.declared.flat.Arg.{Arg}
 use Rattle.nres_core.specs.declared.op.Op.{Op}
 use Rattle.nres_core.specs.declared.place.Place.{Place}
 use Rattle.nres_core.specs.declared.row.LibName.{LibName}
-use Rattle.nres_core.specs.declared.row.RowCode.{RowCode}
-use Rattle.nres_core.specs.declared.row.RowCode.TheVariants as c
 use Rattle.nres_core.specs.declared.value.Value.{Value}
 use Rattle.nres_meaning.specs.FlatMeaning.{Vars, arg_values, puts}
 use Rattle.target_code.specs.declared.tree.Instr.{Instr, out-Instr}
@@ -27,19 +25,19 @@ use Rattle.target_meaning.proofs.Shares.{plus-comm, plus-assoc}
 use Rattle.triple_logic.specs.Laws.{End_fact, Beside}
 use Rattle.triple_logic.specs.Safe.{at_end}
 use Rattle.row_laws.specs.Rows.{Thing, values_of, words_of, pieces_of}
-use Rattle.rule_check.specs.Context.{Hold, Owned, Kept, Gone, Shape, is_gone, is_owned}
+use Rattle.rule_check.specs.Context.{Hold, Owned, Kept, Gone, is_gone, is_owned}
 use Rattle.rule_check.specs.Facts.{defs_in}
 use Rattle.rule_check.specs.Steps.{apply_sure}
 use Rattle.rule_check.specs.Table.{Rule}
-use Rattle.fits.specs.Places.{Entry, State, Info, arg_infos, all_words, info_shapes, info_reps, wanted, goners, hold_words, old_shapes, in_order, numbers, ctx_of, with_hold, bind_at, all_fresh}
+use Rattle.fits.specs.Places.{Entry, State, Info, arg_infos, all_words, info_shapes, info_reps, wanted, goners, hold_words, old_shapes, in_order, numbers, ctx_of, with_hold, bind_at}
 use Rattle.fits.specs.Follow.{Line, Answer, OnFound, fit, call_step, all_below, is_there, fates, given_shapes, bound_words}
 use Rattle.fits_sound.specs.World.{World, Code_run, Live}
-use Rattle.fits_sound.specs.Meant.{All_rel, Destroyed_whole, some_pieces, Row, Row_end, Call_sound, Small, Dyn, word, live, Below, Parts_kept, Known, Ctx, Inv, Tagged}
+use Rattle.fits_sound.specs.Meant.{All_rel, Destroyed_whole, some_pieces, Row, Row_end, Call_sound, Small, Dyn, word, live, Parts_kept, Known, Ctx, Tagged}
 use Rattle.fits_sound.specs.RowShapes.{row_on, kept_count}
 use Rattle.fits_sound.proofs.Found.{To, need_elim, head_elim, both_elim, ok_elim, row_line_found, call_own_found}
 use Rattle.fits_sound.proofs.Basic.{words_read, le_then}
 use Rattle.fits_sound.proofs.Bound.{grow, grow_values, same_count, map-append}
-use Rattle.fits_sound.proofs.Take.{All_among, All_wanted, sum_vars, Args, args_of, owned_there, kept_less, less_gone, goners_piece, vars_whole}
+use Rattle.fits_sound.proofs.Take.{Args, args_of, owned_there, kept_less, less_gone, goners_piece, vars_whole}
 use Rattle.fits_sound.proofs.Tests.{Passes, passes, info_reps_are}
 use Rattle.fits_sound.proofs.Pass.{Passing, any_state, passed}
 use Rattle.fits_sound.proofs.Sound.{Goes, Met, Sound, arrived, bound_later, bound_defs}

@@ -1,9 +1,9 @@
 -- Lines `left`, `right` and `any rR` are met.
-use Rattle.std.proofs.Common.{◌≡◌, ℕ, suc, ◌<◌, ◌≤◌, ◌^◌, Bool, true, false, cond, not, ◌&&◌, ◌||◌, max, List, [], ◌∷◌, ◌++◌, length, map, refl, sym, ap, ◌∙◌, subst, arith, inl, inr, leb, leb-true, ltb, ◌⊎◌, ⊎_elim}
+use Rattle.std.proofs.Common.{◌≡◌, ℕ, suc, ◌<◌, ◌≤◌, Bool, true, false, cond, ◌&&◌, max, List, [], ◌∷◌, ◌++◌, length, map, refl, sym, ap, ◌∙◌, subst, arith, inl, inr, leb, leb-true, ◌⊎◌, ⊎_elim}
 use Rattle.std.proofs.lemmas.Bool.{and_parts}
-use Rattle.std.specs.Prelude.{Option, Some, Ok, nat_lt}
-use Rattle.flat_paths.specs.Paths.{Stop, Fault, Excess, Stops, never, only, may, paths, Halts}
-use Rattle.flat_paths.proofs.Rises.{lift, raise, stop_first, Top, top}
+use Rattle.std.specs.Prelude.{Some, nat_lt}
+use Rattle.flat_paths.specs.Paths.{Fault, Excess, Stops, never, only, may, paths, Halts}
+use Rattle.flat_paths.proofs.Rises.{lift, raise, stop_first, top}
 use Rattle.flat_paths.proofs.Unfold.{paths_either, paths_any, any_fails}
 use Rattle.nres_core.specs.FlatTree.{Binds, Ending, Either, Any}
 use Rattle.nres_core.specs.Ops.{nat_runs}
@@ -23,21 +23,21 @@ use Rattle.target_meaning.specs.Leaf.{do_all}
 use Rattle.target_meaning.specs.Piece.{none, Piece, plus, IsAllWhole}
 use Rattle.triple_logic.specs.Laws.{End_fact}
 use Rattle.relations.specs.Represents.{Represents}
-use Rattle.row_laws.specs.Rows.{Thing, IsBelow, values_of, pieces_of}
-use Rattle.rule_check.specs.Context.{Hold, Gone, Fact, Def, Shape, is_owned, is_slice}
-use Rattle.rule_check.specs.Facts.{any_tells, defs_in, below}
+use Rattle.row_laws.specs.Rows.{Thing, IsBelow, pieces_of}
+use Rattle.rule_check.specs.Context.{Def, is_owned}
+use Rattle.rule_check.specs.Facts.{any_tells, defs_in}
 use Rattle.rule_check.specs.Steps.{bare, ended, no_list}
 use Rattle.start_ends.specs.Things.{Wholes}
-use Rattle.fits.specs.Places.{arg_info, hold_words, Token, Number, Of, Entry, State, Info, arg_infos, all_vars, info_shapes, infos_words, none_left, old_shape, in_order, goners, ctx_of, with_facts, begun_state, bind_entry, bind_words}
+use Rattle.fits.specs.Places.{arg_info, hold_words, Token, Number, Of, Entry, State, Info, arg_infos, all_vars, info_shapes, infos_words, none_left, in_order, goners, ctx_of, with_facts, begun_state, bind_entry, bind_words}
 use Rattle.fits.specs.Follow.{Line, Answer, OnFound, fit, side_step, side_over, either_at, outside, pass_until, with_some, with_ok, need}
 use Rattle.fits_sound.specs.World.{World, Code_run, Within, Live}
-use Rattle.fits_sound.specs.Meant.{Dyn, word, at_hold, live, Below, Parts_kept, Agree, Known, Ctx, Inv, Tag, Tag_at, Facts, Among}
+use Rattle.fits_sound.specs.Meant.{Dyn, word, at_hold, live, Parts_kept, Agree, Known, Ctx, Inv, Tag, Facts}
 use Rattle.fits_sound.proofs.Found.{To, need_elim, some_elim, ok_elim, both_elim, then_found, side_line_elim, any_line_elim}
 use Rattle.fits_sound.proofs.Basic.{le_then, olds_more, words_agree, known_agree, below_more, rels_agree, shares_agree, agree_same, agree_then, live_same, bind_dyn, bind_agree, bind_ctx, tag_agree, old_shape_more, facts_more, defs_same, put_same}
 use Rattle.fits_sound.proofs.Bound.{grow, grow_values, around}
-use Rattle.fits_sound.proofs.Take.{All_among, All_wanted, sum_vars, One, one, args_of, Each, owned_there, kept_less, less_gone, goners_piece, vars_whole, none_whole, no_piece}
+use Rattle.fits_sound.proofs.Take.{One, one, args_of, Each, owned_there, kept_less, less_gone, goners_piece, vars_whole, none_whole, no_piece}
 use Rattle.fits_sound.proofs.Spots.{Moves, moves}
-use Rattle.fits_sound.proofs.Pass.{Passing, any_state, until}
+use Rattle.fits_sound.proofs.Pass.{Passing, until}
 use Rattle.fits_sound.proofs.Block.{rebase, only_older, kept_older}
 use Rattle.fits_sound.proofs.Join.{le_same, max_left, max_right, within_max, known_words}
 use Rattle.fits_sound.proofs.Sound.{Goes, Met, Sound, refacted, facts-append}

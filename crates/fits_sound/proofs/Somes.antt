@@ -1,11 +1,11 @@
 -- An operation that does not fail gives something.
-use Rattle.std.proofs.Common.{◌≡◌, ℕ, zero, suc, ◌<◌, Bool, true, false, cond, ◌||◌, List, [], ◌∷◌, length, refl, arith, ◌⊎◌, inl, inr, ⊎_elim}
+use Rattle.std.proofs.Common.{ℕ, Bool, true, false, cond, List, [], ◌∷◌, refl, arith, ◌⊎◌, inl, inr}
 use Rattle.std.proofs.lemmas.List.Sorted.{IsPermutation-refl}
 use Rattle.std.specs.FinMap as maps
 use Rattle.containers.specs.Sets as sets
 use Rattle.std.specs.Prelude.{Option, Some, None}
-use Rattle.nres_core.specs.Ops.{op_out, fail_if, popped, one_of, in_some_order, found, least, taken, one}
-use Rattle.nres_core.specs.Runs.{Runs, Done, Failed, Choose, One_of, Order_of, Gives, Fails}
+use Rattle.nres_core.specs.Ops.{op_out, fail_if, popped, one_of, found, least, taken, one}
+use Rattle.nres_core.specs.Runs.{Runs, Failed, Choose, Order_of, Gives, Fails}
 use Rattle.nres_core.specs.declared.op.Op.{Op}
 use Rattle.nres_core.specs.declared.op.Op.TheVariants as o
 use Rattle.nres_core.specs.declared.value.Value.{Value}

@@ -1,5 +1,5 @@
 -- What the semantic theorem says of binds, and how results come to registers.
-use Rattle.std.proofs.Common.{◌≡◌, ℕ, suc, ◌≤◌, true, List, [], ◌∷◌, leb, leb-true, arith, map, length, sym, ◌∙◌, subst, ◌++◌, ap, refl}
+use Rattle.std.proofs.Common.{◌≡◌, ℕ, suc, ◌≤◌, true, List, [], ◌∷◌, leb, leb-true, arith, map, length, sym, ◌∙◌, subst, ◌++◌, refl}
 use Rattle.std.proofs.lemmas.Bool.{and_parts}
 use Rattle.std.specs.Prelude.{Option}
 use Rattle.flat_paths.specs.Paths.{never, paths}
@@ -19,7 +19,7 @@ use Rattle.fits.specs.Follow.{Line, OnFound, fit, all_below}
 use Rattle.fits_sound.specs.World.{World, Code_run, Within, Live}
 use Rattle.fits_sound.specs.Meant.{All_rel, Dyn, word, Olds, Agree, Known, Ctx, Inv, Tagged, Facts, Defs}
 use Rattle.fits_sound.proofs.Found.{To}
-use Rattle.fits_sound.proofs.Basic.{known_all, known_agree, length-put_all, some_is}
+use Rattle.fits_sound.proofs.Basic.{known_all, known_agree, length-put_all}
 use Rattle.fits_sound.proofs.Bound.{grow, bound}
 
 module _ (W : World) (R : ℕ) (proc : Proc) (f : ℕ) where

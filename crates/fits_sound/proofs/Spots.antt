@@ -1,21 +1,19 @@
 -- What the rule check's tests of arguments say of their variables.
-use Rattle.std.proofs.Common.{◌≡◌, ◌≢◌, ℕ, zero, suc, Bool, true, false, cond, not, List, [], ◌∷◌, ◌++◌, map, refl, sym, ap, ◌∙◌, subst, ◌^◌, ltb, eqb, eqb-true, eq-eqb, ⊎_elim, ◌⊎◌, inl, inr, ◌&&◌, ◌||◌}
-use Rattle.std.proofs.lemmas.Bool.{cond_both, cond-true, cond-false, false≢true, true≢false, or_cases, and_parts}
+use Rattle.std.proofs.Common.{◌≡◌, ℕ, Bool, true, false, cond, not, List, [], ◌∷◌, ◌++◌, refl, sym, ap, ◌∙◌, subst, ◌^◌, ltb, eqb, eq-eqb, ◌&&◌, ◌||◌}
+use Rattle.std.proofs.lemmas.Bool.{cond_both, cond-true, cond-false, true≢false}
 use Rattle.std.specs.Prelude.{Option, Some, None, Ok}
 use Rattle.nres_core.specs.FlatTree.{Ending}
 use Rattle.nres_core.specs.declared.flat.Arg.{Arg}
 use Rattle.nres_core.specs.declared.flat.Arg.TheVariants as a
 use Rattle.nres_core.specs.declared.place.Place.{Place}
-use Rattle.target_code.specs.declared.tree.Rep.{Rep}
 use Rattle.target_code.specs.declared.tree.Rep.TheVariants as rep
-use Rattle.rule_check.specs.Context.{Hold, Owned, Kept, Gone, Spot, Shape, Ctx, is_gone, is_owned, is_container, spot_at, arg_spot, looked_up, reps_of, shape_of, shapes_of, vars_of, stands, first_twice, first_clash, first_gone, first_kept}
-use Rattle.rule_check.specs.Laws.{AllOwned, MovedOut, Applies}
-use Rattle.rule_check.specs.Steps.{Book, Moved, ended, started, bare, is_destroyed, destroyed}
-use Rattle.rule_check.specs.Table.{Take}
+use Rattle.rule_check.specs.Context.{Hold, Spot, Shape, is_owned, is_container, spot_at, arg_spot, looked_up, reps_of, shape_of, shapes_of, vars_of, stands, first_twice, first_gone, first_kept}
+use Rattle.rule_check.specs.Laws.{AllOwned}
+use Rattle.rule_check.specs.Steps.{Book, Moved, ended, started, bare}
 use Rattle.rule_check.proofs.Tested.{skip, NoneGone, none_gone, all_owned, results_move}
 use Rattle.rule_check.proofs.Passing.{unless_elim}
-use Rattle.fits.specs.Places.{Token, Number, Entry, State, spot_of, spots_of, ctx_of, lookup, Info, only_container, info_of, arg_info, cons_some, arg_infos, all_vars, info_shapes, info_reps, wanted}
-use Rattle.fits.specs.Follow.{fates, is_there}
+use Rattle.fits.specs.Places.{Number, Entry, State, spot_of, spots_of, ctx_of, lookup, Info, only_container, info_of, arg_info, cons_some, arg_infos, all_vars, info_shapes, info_reps}
+use Rattle.fits.specs.Follow.{is_there}
 use Rattle.fits_sound.proofs.Basic.{some_is}
 use Rattle.fits_sound.proofs.Take.{All_wanted, Not_in, Distinct}
 

@@ -1,15 +1,15 @@
 -- Calculations, in values and in words.
-use Rattle.std.proofs.Common.{◌≡◌, ℕ, ◌+◌, ◌-◌, ◌*◌, ◌/◌, ◌%◌, ◌^◌, ◌<◌, ◌≤◌, Bool, true, false, not, ◌&&◌, ◌||◌, cond, [], ◌∷◌, List, refl, ap, sym, ◌∙◌, subst, arith, eqb, leb, ltb, ltb-true, ltb-false, leb-false, eqb-true, min, max, zero, suc, lt-ltb, le-leb}
+use Rattle.std.proofs.Common.{◌≡◌, ℕ, ◌+◌, ◌-◌, ◌*◌, ◌/◌, ◌%◌, ◌^◌, ◌<◌, ◌≤◌, Bool, true, false, not, cond, [], ◌∷◌, refl, ap, sym, ◌∙◌, subst, arith, eqb, leb, ltb, ltb-false, leb-false, eqb-true, min, max, zero, suc}
 use Rattle.std.proofs.Math.Nat.{div-le_self, mod-lt}
 use Rattle.nres_core.specs.Ops.{calc_out, fail_if}
-use Rattle.nres_core.specs.Runs.{Runs, Done, Failed, Fails}
+use Rattle.nres_core.specs.Runs.{Done, Fails}
 use Rattle.nres_core.specs.declared.value.Value.{Value}
 use Rattle.nres_core.specs.declared.value.Value.TheVariants as v
 use Rattle.target_code.specs.declared.tree.Calc.{Calc}
 use Rattle.target_code.specs.declared.tree.Calc.TheVariants as calc
 use Rattle.target_code.specs.declared.tree.Rep.{Rep}
 use Rattle.target_code.specs.declared.tree.Rep.TheVariants as rep
-use Rattle.target_meaning.specs.Leaf.{Number, Is, calc_of}
+use Rattle.target_meaning.specs.Leaf.{Is, calc_of}
 use Rattle.target_meaning.specs.Piece.{Piece, none}
 use Rattle.relations.specs.Represents.{Represents}
 use Rattle.rule_check.specs.Steps.{calc_rep}

@@ -1,5 +1,5 @@
 -- Arguments: what stands for them, and what is taken.
-use Rattle.std.proofs.Common.{◌≡◌, ◌≢◌, ℕ, zero, suc, ◌+◌, ◌^◌, ◌<◌, Bool, true, false, cond, not, List, [], ◌∷◌, ◌++◌, length, map, refl, sym, ap, ◌∙◌, subst, arith, eqb, eqb-true, ltb, ltb-true, ⊎_elim, ◌⊎◌, inl, inr, ◌&&◌, ◌||◌}
+use Rattle.std.proofs.Common.{◌≡◌, ◌≢◌, ℕ, zero, suc, ◌^◌, ◌<◌, Bool, true, false, cond, not, List, [], ◌∷◌, ◌++◌, length, map, refl, sym, ap, ◌∙◌, subst, arith, eqb, eqb-true, ltb, ltb-true, ⊎_elim, ◌⊎◌, inl, inr, ◌&&◌, ◌||◌}
 use Rattle.std.proofs.lemmas.Bool.{cond_both}
 use Rattle.std.proofs.lemmas.Bool.Decides.{eqb_tells}
 use Rattle.std.specs.Prelude.{Option, Some, None, slice_index}
@@ -16,12 +16,12 @@ use Rattle.target_meaning.proofs.Shares.{plus-none, plus-comm, plus-assoc}
 use Rattle.layout_facts.proofs.Facts as layouts
 use Rattle.relations.specs.Represents.{Represents, IsFlag}
 use Rattle.row_laws.specs.Rows.{Thing, values_of, words_of, pieces_of}
-use Rattle.rule_check.specs.Context.{Hold, Owned, Kept, Gone, Shape, is_gone, is_owned, is_container, is_slice}
+use Rattle.rule_check.specs.Context.{Hold, Owned, Kept, Gone, is_gone, is_owned, is_container, is_slice}
 use Rattle.rule_check.specs.Steps.{bare}
 use Rattle.start_ends.specs.Things.{Wholes}
-use Rattle.fits.specs.Places.{Token, Number, Entry, put, lookup, Info, only_container, info_of, arg_info, cons_some, arg_infos, all_words, all_vars, info_shapes, wanted, old_shape, old_shapes, goners}
+use Rattle.fits.specs.Places.{Token, Number, Entry, put, lookup, Info, only_container, info_of, arg_info, cons_some, arg_infos, all_words, all_vars, info_shapes, wanted, old_shapes, goners}
 use Rattle.fits.specs.Follow.{nth_token, nth_word}
-use Rattle.fits_sound.specs.Meant.{All_rel, some_pieces, Dyn, Destroyed_whole, Share, Shares, Parts_kept, word, at_hold, live, Old, Olds, Below, Rels, Tag, Tag_at, Tagged, Among}
+use Rattle.fits_sound.specs.Meant.{All_rel, some_pieces, Dyn, Destroyed_whole, Share, Shares, Parts_kept, word, at_hold, live, Old, Olds, Below, Rels, Tag_at, Tagged, Among}
 use Rattle.fits_sound.proofs.Basic.{put_same, put_other, put_below, olds_more, live_same, some_is, old_shape_more}
 use Rattle.fits_sound.proofs.Bound.{map-append, olds-append}
 

@@ -1,6 +1,6 @@
 -- What the rule check's test of an operation says of its arguments.
-use Rattle.std.proofs.Common.{◌≡◌, ◌≢◌, ℕ, zero, suc, ◌<◌, ◌≤◌, Bool, true, false, cond, not, List, [], ◌∷◌, ◌++◌, length, refl, sym, ap, ◌∙◌, subst, arith, eqb, eqb-true, eq-eqb, leb, leb-true, ltb, ltb-true, ⊎_elim, ◌⊎◌, inl, inr, ◌&&◌, ◌||◌}
-use Rattle.std.proofs.lemmas.Bool.{cond_both, cond-true, cond-false, false≢true, true≢false, and_parts}
+use Rattle.std.proofs.Common.{◌≡◌, ℕ, zero, suc, ◌<◌, ◌≤◌, Bool, true, false, cond, List, [], ◌∷◌, ◌++◌, length, refl, sym, ap, ◌∙◌, subst, arith, eqb, eqb-true, eq-eqb, leb, leb-true, ltb-true, ⊎_elim, ◌⊎◌, inl, inr, ◌&&◌, ◌||◌}
+use Rattle.std.proofs.lemmas.Bool.{cond_both, false≢true, true≢false, and_parts}
 use Rattle.std.specs.Prelude.{Option, Some, None, Ok}
 use Rattle.nres_core.specs.declared.flat.Arg.{Arg}
 use Rattle.nres_core.specs.declared.flat.Arg.TheVariants as a
@@ -11,15 +11,15 @@ use Rattle.nres_core.specs.declared.value.Value.TheVariants as v
 use Rattle.nres_meaning.specs.FlatMeaning.{Vars, arg_value, arg_values}
 use Rattle.target_code.specs.declared.tree.Rep.{Rep}
 use Rattle.row_laws.specs.Rows.{At, IsBelow}
-use Rattle.rule_check.specs.Context.{Hold, Spot, Shape, Fact, is_owned, is_gone, is_container, is_slice, looked_up, reps_of, shapes_of, vars_of, stands, first_clash}
+use Rattle.rule_check.specs.Context.{Hold, Spot, Shape, Fact, is_owned, is_container, is_slice, looked_up, reps_of, shapes_of, vars_of, stands, first_clash}
 use Rattle.rule_check.specs.Facts.{knows, var_below}
 use Rattle.rule_check.specs.Laws.{Applies}
 use Rattle.rule_check.specs.Steps.{apply_sure, is_destroyed, destroyed, slice_tag, row_shapes, op_bound, arg_at, unless_known, unknown}
 use Rattle.rule_check.specs.Table.{Rule, Take}
 use Rattle.rule_check.proofs.Tested.{skip, NoneGone, none_gone, operations_apply}
-use Rattle.fits.specs.Places.{Entry, State, arg_info, cons_some, spots_of, ctx_of, Info, arg_infos, lookup, info_of, all_vars, info_shapes, info_reps, wanted, goners}
-use Rattle.fits.specs.Follow.{Views, fates, is_there, given_shapes, bound_words}
-use Rattle.fits_sound.specs.Meant.{Facts, Among, Small, Row}
+use Rattle.fits.specs.Places.{Entry, State, arg_info, spots_of, ctx_of, Info, arg_infos, all_vars, info_shapes, info_reps, wanted, goners}
+use Rattle.fits.specs.Follow.{Views, fates, is_there, given_shapes}
+use Rattle.fits_sound.specs.Meant.{Facts, Among, Small}
 use Rattle.fits_sound.specs.RowShapes.{shape_reps, gone_tag, kept_count, need_of, row_on}
 use Rattle.fits_sound.proofs.Basic.{some_is}
 use Rattle.fits_sound.proofs.Spots.{Spots_are, cons_parts, spots_are, vars_are, reps_are, shapes_are, owned_wanted, there_wanted, not_stands}

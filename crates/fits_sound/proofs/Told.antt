@@ -1,7 +1,6 @@
 -- Facts that calculations tell where a value is true.
-use Rattle.std.proofs.Common.{◌≡◌, ℕ, zero, suc, ◌<◌, ◌≤◌, Bool, true, false, cond, not, min, max, ◌&&◌, ◌||◌, List, [], ◌∷◌, ◌++◌, refl, sym, ap, ◌∙◌, subst, arith, eqb, eqb-true, ltb, ltb-true, ⊎_elim, ◌⊎◌, inl, inr}
-use Rattle.std.proofs.lemmas.Bool.{cond_both, false≢true, true≢false, and_parts}
-use Rattle.nres_core.specs.FlatTree.{Binds}
+use Rattle.std.proofs.Common.{◌≡◌, ℕ, ◌<◌, Bool, true, false, ◌||◌, List, [], ◌∷◌, ◌++◌, refl, ap, ◌∙◌, subst, eqb, eqb-true, ltb, ltb-true, ⊎_elim, ◌⊎◌, inl, inr}
+use Rattle.std.proofs.lemmas.Bool.{cond_both, false≢true}
 use Rattle.nres_core.specs.Ops.{calc_out}
 use Rattle.nres_core.specs.Runs.{Done}
 use Rattle.nres_core.specs.declared.flat.Arg.{Arg}
@@ -15,7 +14,7 @@ use Rattle.target_code.specs.declared.tree.Calc.{Calc}
 use Rattle.target_code.specs.declared.tree.Calc.TheVariants as calc
 use Rattle.row_laws.specs.Rows.{IsBelow}
 use Rattle.rule_check.specs.Context.{Fact, Def, is_among}
-use Rattle.rule_check.specs.Facts.{below, defs_behind, also, compared, told_by, parts_of, told, learnt}
+use Rattle.rule_check.specs.Facts.{defs_behind, also, compared, told_by, parts_of, told, learnt}
 use Rattle.fits.specs.Places.{Entry}
 use Rattle.fits_sound.specs.Meant.{Facts, Defs, Old_arg, Among}
 

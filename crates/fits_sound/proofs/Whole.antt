@@ -1,5 +1,5 @@
 -- The semantic theorem, for binds without `split` and calls: what fits is sound.
-use Rattle.std.proofs.Common.{◌≡◌, ℕ, suc, ◌<◌, ◌≤◌, length, true, false, Bool, ◌&&◌, List, [], ◌∷◌, arith, refl, sym, ap, ◌∙◌, subst}
+use Rattle.std.proofs.Common.{◌≡◌, ℕ, suc, ◌<◌, ◌≤◌, length, true, ◌&&◌, List, [], ◌∷◌, arith, refl, sym, ap, ◌∙◌, subst}
 use Rattle.std.proofs.lemmas.Bool.{and_parts, false≢true}
 use Rattle.std.specs.Prelude.{Option, Some}
 use Rattle.nres_core.specs.FlatTree as t
@@ -9,17 +9,16 @@ use Rattle.nres_core.specs.declared.op.Op.{Op}
 use Rattle.nres_core.specs.declared.place.Place.{Place}
 use Rattle.nres_core.specs.declared.row.RowCode.{RowCode}
 use Rattle.nres_core.specs.declared.row.RowCode.TheVariants as c
-use Rattle.target_code.specs.declared.tree.Instr.{Instr}
 use Rattle.target_code.specs.declared.tree.Proc.{Proc}
 use Rattle.target_code.specs.declared.tree.Rep.{Rep}
 use Rattle.rule_check.specs.Table.{Rule}
-use Rattle.fits.specs.Places.{Entry, State, Info, arg_info, arg_infos, info_shapes, info_reps}
-use Rattle.fits.specs.Follow.{Line, OnFound, fit, row_step}
+use Rattle.fits.specs.Places.{Entry, Info, arg_info, arg_infos, info_shapes, info_reps}
+use Rattle.fits.specs.Follow.{OnFound, fit, row_step}
 use Rattle.fits_sound.specs.Meant.{Via_sound}
 use Rattle.fits_sound.specs.RowShapes.{row_on}
 use Rattle.fits_sound.specs.Served.{is_served}
 use Rattle.fits_sound.specs.World.{World, Row_sound}
-use Rattle.fits_sound.proofs.Found.{To, some_elim, found_is}
+use Rattle.fits_sound.proofs.Found.{some_elim, found_is}
 use Rattle.fits_sound.proofs.Basic.{some_is}
 use Rattle.fits_sound.proofs.Spots.{cons_parts}
 use Rattle.fits_sound.proofs.Asserts.{assert_sound}

@@ -10,7 +10,7 @@ use Rattle.target_meaning.specs.Leaf.{do_all}
 use Rattle.target_meaning.specs.Machine.{Leaf}
 use Rattle.target_meaning.specs.Piece.{Piece}
 use Rattle.triple_logic.specs.Bounded.{Bounded}
-use Rattle.triple_logic.specs.Laws.{End_fact, at_code}
+use Rattle.triple_logic.specs.Laws.{at_code}
 use Rattle.triple_logic.specs.Safe.{Safe, at_code_end}
 use Rattle.run_laws.specs.RunLaws.{Laws}
 use Rattle.fits.specs.Places.{Entry, State}

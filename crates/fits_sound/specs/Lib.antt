@@ -1,4 +1,5 @@
 pub mod Fitted
+pub mod FitsWhole
 pub mod Meant
 pub mod RowShapes
 pub mod Served

@@ -1,6 +1,5 @@
 -- What a place of a program means for registers and a piece, and what a row has to do.
-use Rattle.std.specs.Prelude.{◌≡◌, ℕ, zero, suc, ◌-◌, ◌^◌, ◌⊎◌, ◌<◌, ◌≤◌, Bool, true, false, List, [], ◌∷◌, ◌++◌, map, length, cond, nat_lt, slice_index, Option, Some, None}
-use Rattle.flat_paths.specs.Paths.{Calls, Stop, never, only, may}
+use Rattle.std.specs.Prelude.{◌≡◌, ℕ, suc, ◌-◌, ◌^◌, ◌⊎◌, ◌<◌, ◌≤◌, Bool, true, false, List, [], ◌∷◌, ◌++◌, map, length, cond, nat_lt, slice_index, Option, Some, None}
 use Rattle.nres_core.specs.Ops.{op_out, calc_out}
 use Rattle.nres_core.specs.Runs.{Gives, Fails, Done}
 use Rattle.nres_core.specs.declared.flat.Arg.{Arg}
@@ -13,7 +12,6 @@ use Rattle.nres_core.specs.declared.value.Value.{Value}
 use Rattle.nres_core.specs.declared.value.Value.TheVariants as v
 use Rattle.nres_meaning.specs.FlatMeaning.{Vars, arg_value}
 use Rattle.target_code.specs.declared.tree.Proc.{Proc}
-use Rattle.target_code.specs.declared.tree.Rep.{Rep}
 use Rattle.target_meaning.specs.Leaf.{Run, begin, find}
 use Rattle.target_meaning.specs.Piece.{Piece, none, plus, IsAllWhole, AreDisjoint}
 use Rattle.triple_logic.specs.Parts.{AtLeast}

@@ -1,6 +1,6 @@
 -- What a proof about a program goes by: the laws of its runs, the rule rows, the procedures, the meaning of calls.
-use Rattle.std.specs.Prelude.{◌≡◌, ℕ, ◌<◌, ◌≤◌, length, List, [], Option, Some}
-use Rattle.flat_paths.specs.Paths.{Calls, Rising, Halts, Stop, MustNot, IsWithin, Lives}
+use Rattle.std.specs.Prelude.{◌≡◌, ℕ, ◌<◌, ◌≤◌, length, List, Option, Some}
+use Rattle.flat_paths.specs.Paths.{Calls, Rising, IsWithin, Lives}
 use Rattle.nres_core.specs.FlatTree.{Binds}
 use Rattle.nres_core.specs.declared.op.Op.{Op}
 use Rattle.nres_meaning.specs.FlatMeaning.{Vars}
@@ -14,7 +14,7 @@ use Rattle.rule_check.specs.Context.{Shape}
 use Rattle.rule_check.specs.Table.{Rule}
 use Rattle.run_laws.specs.RunLaws.{Laws}
 use Rattle.fits.specs.Follow.{Views, fates}
-use Rattle.fits_sound.specs.Meant.{Row, Via_sound}
+use Rattle.fits_sound.specs.Meant.{Via_sound}
 use Rattle.fits_sound.specs.RowShapes.{row_on, shape_reps, kept_count}
 
 -- a row on arguments of given shapes: it keeps at most one container, its fact is on one of them, and it is sound

@@ -1,6 +1,10 @@
 //! The laws. Each function does nothing; its contract is the law.
 
 ghost use Rattle.fits_sound.specs.Fitted.{Fitted, IsBounded, IsSafe};
+ghost use Rattle.fits_sound.specs.FitsWhole.{FitsWhole};
+ghost use Rattle.soundness.specs.Behaviour.{of_flat};
+ghost use Rattle.soundness.specs.Bound.{IsBoundedFor};
+ghost use Rattle.soundness.specs.Sound.{FlatSound};
 
 /// A stretch of code that fits binds without `split` and calls, in a program whose rows are sound.
 pub trait Fits {
@@ -14,4 +18,17 @@ pub trait Fits {
 pub fn what_fits_is_sound<C: Fits>()
     ensures safe { (x : C) → IsSafe (C.fitted x) }
     ensures bounded { (x : C) → IsBounded (C.fitted x) }
+{}
+
+/// A program that fits a specification whose own part has no `split` and no calls, with rows that are sound.
+pub trait FitsText {
+    ghost fitted: { Self → FitsWhole };
+}
+
+/// A program that fits a specification is sound for it: from each start in whose values nothing can fail it is safe under
+/// every interleaving, and ends only with results that the specification allows. And its runs are bounded wherever the
+/// specification's paths end.
+pub fn fitting_programs_are_sound<P: FitsText>()
+    ensures sound { (x : P) → FlatSound (P.fitted x).text (P.fitted x).program }
+    ensures bounded { (x : P) → IsBoundedFor (of_flat (P.fitted x).text) (P.fitted x).program }
 {}
