@@ -1,5 +1,5 @@
 -- The end of a block by its faults.
-use Rattle.std.proofs.Common.{◌≡◌, ◌<◌, ◌+◌, ℕ, suc, List, [], ◌∷◌, ◌++◌, length, take, refl, sym, ap, ◌∙◌, subst, arith, get_or}
+use Rattle.std.proofs.Common.{◌≡◌, ◌<◌, ◌+◌, ℕ, suc, List, [], ◌∷◌, ◌++◌, length, take, refl, sym, ap, ◌∙◌, arith, get_or}
 use Rattle.std.proofs.Math.Seq.{take-suc}
 use Rattle.context_laws.specs.Stacks.{Held}
 use Rattle.context_laws.specs.Steps.{with_spot}
@@ -14,12 +14,12 @@ use Rattle.nres_core.specs.declared.refusal.Refusal.{Refusal}
 use Rattle.nres_core.specs.declared.refusal.Why.{Why}
 use Rattle.nres_core.specs.declared.refusal.Why.TheVariants as w
 use Rattle.ownership.specs.Entries.{spots_of}
-use Rattle.ownership.specs.Faults.{or_next, results_fault, why_of, unless_refused}
+use Rattle.ownership.specs.Faults.{or_next, why_of, unless_refused}
 use Rattle.ownership.specs.declared.entry.Entry.{Entry}
 use Rattle.ownership.specs.declared.entry.Fault.{Fault}
 use Rattle.ownership.specs.declared.entry.Fault.TheVariants as f
-use Rattle.rule_check.specs.Context.{Spot, Shape, Ctx, reps_of, shapes_of, vars_of, all_go, looked_up, inner, first_slice, first_gone, first_twice, first_kept}
-use Rattle.rule_check.specs.Steps.{Book, Moved, name_at, refused, on_ok, unless, moved, ended}
+use Rattle.rule_check.specs.Context.{Spot, Ctx, reps_of, shapes_of, vars_of, all_go, looked_up, inner, first_slice, first_gone, first_twice, first_kept}
+use Rattle.rule_check.specs.Steps.{Book, Moved, name_at, refused, on_ok, unless, ended}
 use Rattle.rule_steps.specs.Ends.{astray_of, then_tag, end_fault, moved_as}
 
 abbrev out_of : List Spot → List Spot → Moved

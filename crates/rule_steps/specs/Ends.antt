@@ -1,5 +1,5 @@
 -- What is refused at the end of a block.
-use Rattle.std.specs.Prelude.{◌≡◌, ℕ, List, Option, Some, None, Result, Ok, Err}
+use Rattle.std.specs.Prelude.{ℕ, List, Option, Some, None, Result, Ok, Err}
 use Rattle.nres_core.specs.declared.refusal.Refusal.{Refusal}
 use Rattle.ownership.specs.Entries.{spots_of}
 use Rattle.ownership.specs.Faults.{or_next, results_fault}

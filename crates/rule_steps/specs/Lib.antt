@@ -1,2 +1,4 @@
 pub mod Ends
+pub mod Loops
+pub mod Operations
 pub mod States

@@ -28,6 +28,7 @@ pub fn finish(
     block: &FlatBlock,
 ) -> Result<Result<Items<Entry>, Refusal>, AllocError>
     ensures ended { IfOk result (λ r. (book : Book) (x : Ctx) → book.names ≡ names.now → x.spots ≡ context.old.spots → ended book count (astray_of owed) x (flats_of block.now).ending ≡ moved_as r context.new.spots) }
+    ensures results { IfOk result (λ r. IfOk r (λ results. spots_of results ≡ d.looked_up context.old.spots (flats_of block.now).ending.results)) }
     ensures saved { context.new.saved ≡ context.old.saved }
 {
     let results = looked_up(alloc, context, block.results.as_slice())?;

@@ -1,0 +1,7 @@
+mod AllRows
+mod Calls
+mod Claims
+mod Found
+mod Leading
+mod Rows
+mod Shapes

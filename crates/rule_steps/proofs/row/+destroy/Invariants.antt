@@ -1,0 +1,4 @@
+use Rattle.rule_steps.proofs.row.+destroy.Given as goal
+
+abbrev pub decreases-destroy : goal.decreases-destroy
+decreases-destroy l = l.count
