@@ -4,6 +4,7 @@ pub mod Took
 pub mod Made
 pub mod Legged
 pub mod Stopping
+pub mod FrameRuns
 pub mod Forks
 pub mod Lefts
 pub mod StopsLeft

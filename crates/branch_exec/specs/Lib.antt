@@ -6,6 +6,7 @@ pub mod Stops
 pub mod Ends
 pub mod Turned
 pub mod Went
+pub mod Straight
 pub mod Meaning
 pub mod LeftRuns
 pub mod Forks

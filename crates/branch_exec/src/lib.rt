@@ -9,3 +9,4 @@ pub mod leaf;
 pub mod leg;
 pub mod run;
 pub mod store;
+mod straight;

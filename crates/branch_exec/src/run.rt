@@ -9,6 +9,7 @@ ghost use Rattle.branch_exec.specs.Went.{EndsLeg, KeepsOne};
 
 use crate::leaf::{Leaf, top_registers, waiting_frames, weigh};
 use crate::store::{Freed, Got, Seen, Store, Written};
+use crate::straight::run_straight;
 use std::alloc::Global;
 use target_code::Proc;
 use target_meaning::Reason;
@@ -150,6 +151,7 @@ pub fn make_steps<S: Store>(
     ensures budget { leaf.new.budget ≡ leaf.old.budget }
 {
     'steps: while leaf.done < leaf.budget {
+        run_straight(procs, leaf, store);
         match step(alloc, procs, leaf, store) {
             Turn::On => leaf.done += 1,
             turn => return Some(turn),

@@ -1,7 +1,7 @@
 -- A block, up to its end: its results are related, nothing that was made in it is left.
 use Rattle.std.proofs.Common.{◌≡◌, ℕ, ◌≤◌, Bool, true, false, ◌&&◌, ◌||◌, not, List, [], ◌∷◌, map, length, refl, sym, ap, ◌∙◌, subst, arith, ltb, ◌⊎◌, ⊎_elim, inl, inr}
 use Rattle.std.proofs.lemmas.Bool.{and_parts, cond_both, cond-true, cond-false}
-use Rattle.std.specs.Prelude.{Option, Some}
+use Rattle.std.specs.Prelude.{Option, Some, None}
 use Rattle.flat_paths.specs.Paths.{never, paths}
 use Rattle.nres_core.specs.FlatTree.{Binds, Ending}
 use Rattle.nres_core.specs.declared.flat.Arg.{Arg}
@@ -24,12 +24,12 @@ use Rattle.fits_sound.specs.Meant.{All_rel, Dyn, word, at_hold, live, Below, Rel
 use Rattle.fits_sound.proofs.Found.{To, need_elim, some_elim, ok_elim, both_elim, end_found, then_found, found_is}
 use Rattle.fits_sound.proofs.Basic.{some_is, words_read, agree_same, live_same, older_all}
 use Rattle.fits_sound.proofs.Take.{args_of, no_piece, owned_there, kept_less, less_gone, goners_piece, vars_whole}
-use Rattle.fits_sound.proofs.Spots.{Moves, moves}
+use Rattle.fits_sound.proofs.Spots.{Moves, moves, comes_back}
 use Rattle.fits_sound.proofs.Rows.{rehold}
 use Rattle.fits_sound.proofs.Pass.{Passing, any_state, passed}
 use Rattle.fits_sound.proofs.Sound.{Met, Sound}
 
-gone_none : (h : Hold) (p : Piece) → is_gone h ≡ true → at_hold h p ≡ none
+pub gone_none : (h : Hold) (p : Piece) → is_gone h ≡ true → at_hold h p ≡ none
 gone_none Owned p e = absurd (let o : ⊥ = cc e in o)
 gone_none Kept p e = absurd (let o : ⊥ = cc e in o)
 gone_none Gone p e = refl
@@ -104,12 +104,18 @@ module _ (W : World) (R : ℕ) (proc : Proc) (f : ℕ) where
     pub steps : ℕ
     pub run : (is : List Info) → arg_infos end.entries results ≡ Some is → (line : ℕ) (base : List Entry) (D0 D : Dyn) (regs : List ℕ) (p : Piece) → Below mark base → Inv R f mark base D0 u D regs p → Live W bs D.value → (Q : End_fact) (n : ℕ) → ((regs' : List ℕ) (p' : Piece) → Block_end W R f mark base D0 D bs results rs end is regs' p' → Q regs' p') → Code_run W proc Q n steps f (do_all line code) regs p
 
+  -- the same, and the slices that are owed come back
+  pub record Block_back (astray : List Shape → Option ℕ) (bs : Binds) (mark : ℕ) (results : List Arg) (rs : List ℕ) (u : State) (code : List Instr) (K : To) : Type 1 where
+    pub met : Block_met bs mark results rs u code K
+    pub back : (is : List Info) → arg_infos met.end.entries results ≡ Some is → astray (info_shapes is) ≡ None
+
   -- the end of the code, and what moves out there
-  record Own (mark : ℕ) (results : List Arg) (rs : List ℕ) (v : State) (js : List Instr) (K : To) : Type 1 where
+  record Own (astray : List Shape → Option ℕ) (mark : ℕ) (results : List Arg) (rs : List ℕ) (v : State) (js : List Instr) (K : To) : Type 1 where
     none : js ≡ []
     infos : List Info
     info : arg_infos v.entries results ≡ Some infos
     out : Moves v.hold infos
+    back : astray (info_shapes infos) ≡ None
     words : hold_words v.toks rs (all_words infos) ≡ true
     below : all_below R rs ≡ true
     left : none_left mark (goners (all_vars infos) v.hold) v.entries ≡ true
@@ -125,70 +131,87 @@ module _ (W : World) (R : ℕ) (proc : Proc) (f : ℕ) where
       (Found (with_hold v (goners (all_vars infos) v.hold)) [] l))))
 
   module _ (count mark : ℕ) (astray : List Shape → Option ℕ) (e : Ending) (rs : List ℕ) (K : To) where
-    ends : (l : List Line) (v : State) (js : List Instr) → OnFound (Ending_of count mark astray e rs l v js) K → Own mark e.results rs v js K
+    ends : (l : List Line) (v : State) (js : List Instr) → OnFound (Ending_of count mark astray e rs l v js) K → Own astray mark e.results rs v js K
     ends l v js hv =
         let he = end_found js l _ K hv in
-        some_elim (Own mark e.results rs v js K) (arg_infos v.entries e.results) l _ K he.1 (λ infos ei h2.
-        ok_elim (Own mark e.results rs v js K) (ended W.views.book count astray (ctx_of v) e) l _ K h2 (λ m ok h3.
-        need_elim (Own mark e.results rs v js K) _ l _ K h3 (λ nd h4.
-        both_elim (Own mark e.results rs v js K) _ _ nd (λ n2 left.
-        both_elim (Own mark e.results rs v js K) _ _ n2 (λ words below.
-        record { none = he.0; infos = infos; info = ei; out = moves W.views.book count astray v e m infos ok ei; words = words; below = below; left = left; lines = l; found = found_is (with_hold v (goners (all_vars infos) v.hold)) [] l K h4 })))))
+        some_elim (Own astray mark e.results rs v js K) (arg_infos v.entries e.results) l _ K he.1 (λ infos ei h2.
+        ok_elim (Own astray mark e.results rs v js K) (ended W.views.book count astray (ctx_of v) e) l _ K h2 (λ m ok h3.
+        need_elim (Own astray mark e.results rs v js K) _ l _ K h3 (λ nd h4.
+        both_elim (Own astray mark e.results rs v js K) _ _ nd (λ n2 left.
+        both_elim (Own astray mark e.results rs v js K) _ _ n2 (λ words below.
+        record {
+          none = he.0;
+          infos = infos;
+          info = ei;
+          out = moves W.views.book count astray v e m infos ok ei;
+          back = comes_back W.views.book count astray v e m infos ok ei;
+          words = words;
+          below = below;
+          left = left;
+          lines = l;
+          found = found_is (with_hold v (goners (all_vars infos) v.hold)) [] l K h4;
+        })))))
 
-    over : (bs : Binds) (u : State) (code : List Instr) (M : Met W R proc f bs u code (λ s c ls. OnFound (end_block R W.views count mark astray e rs s c ls) K)) → (P : Passing W R proc f (any_state W R proc f) M.rest M.end (Ending_of count mark astray e rs M.lines) K) → Own mark e.results rs P.u P.is K → Block_met bs mark e.results rs u code K
+    over : (bs : Binds) (u : State) (code : List Instr) (M : Met W R proc f bs u code (λ s c ls. OnFound (end_block R W.views count mark astray e rs s c ls) K)) → (P : Passing W R proc f (any_state W R proc f) M.rest M.end (Ending_of count mark astray e rs M.lines) K) → Own astray mark e.results rs P.u P.is K → Block_back astray bs mark e.results rs u code K
     over bs u code M P O =
         let v = P.u in
         let g = goners (all_vars O.infos) v.hold in
         record {
-          end = with_hold v g;
-          lines = O.lines;
-          found = O.found;
-          later = subst (λ y. u.next ≤ y) (sym P.next) M.later;
-          defs = P.defs ∙ M.defs;
-          left = O.left;
-          below = O.below;
-          steps = M.steps (P.steps 0);
-          run = λ is ei line base D0 D regs p bel inv lives Q n next.
-              M.run line mark base D0 D regs p inv lives Q n (P.steps 0)
-              (λ m le D2 regs2 p2 inv2 N wi path.
-              P.run (M.past line) mark base D0 D2 regs2 p2 inv2 Q m 0
-              (λ regs3 p3 inv3.
-              let infos : O.infos ≡ is = some_is O.infos is (sym O.info ∙ ei) in
-              let A = args_of D2 v.next v.entries e.results O.infos inv3.ctx.below inv3.ctx.rels O.info in
-              let left = live v.entries g D2.piece in
-              let kept = kept_less v.entries v.hold g (less_gone (all_vars O.infos) v.hold) inv3.ctx.kept in
-              subst (λ y. Code_run W proc Q m 0 f (do_all (P.past (M.past line)) y) regs3 p3) (sym O.none)
-              (W.laws.over at_code_end Q m 0 f p3 (at_code proc [] regs3) regs3 refl
-              (next regs3 p3
-              (subst (λ y. Block_end W R f mark base D0 D bs e.results rs (with_hold v g) y regs3 p3) infos
-              (record {
-                now = D2;
-                things = A.things;
-                rel = A.rel;
-                tags = A.tags;
-                origins = A.origins;
-                whole = A.whole (vars_whole f D2 v.entries v.hold inv3.ctx.shares inv3.ctx.kept (all_vars O.infos) A.among O.out.owned);
-                values = A.values;
-                words = words_read v.toks v.next D2 regs3 inv3.known rs (all_words O.infos) O.words ∙ sym A.words;
-                known = record { old = inv3.known.old; is = inv3.known.is };
-                count = inv3.count;
-                ctx = rehold f mark base D0 v D2 p3 left g refl kept inv3.ctx;
-                only =
-                    only_older mark g D2 v.entries inv3.ctx.rels O.left ∙ ap (λ y. live y g D2.piece) inv3.ctx.origin ∙
-                    live_same mark base g g D2.piece D0.piece bel (λ x lt. ap (at_hold (g x)) (inv3.ctx.agree.pieces x lt));
-                kept = subst (Parts_kept g) inv3.ctx.origin (kept_older mark g v.entries kept);
-                piece = inv3.ctx.piece ∙ goners_piece is_owned owned_there (all_vars O.infos) v.hold O.out.distinct O.out.owned v.next v.entries D2.piece inv3.ctx.below A.among ∙ ap (λ y. plus y left) (sym A.piece);
-                turns = N;
-                within = wi;
-                path = path;
-              }))))));
+          back = λ is ei. subst (λ y. astray (info_shapes y) ≡ None) (some_is O.infos is (sym O.info ∙ ei)) O.back;
+          met = record {
+            end = with_hold v g;
+            lines = O.lines;
+            found = O.found;
+            later = subst (λ y. u.next ≤ y) (sym P.next) M.later;
+            defs = P.defs ∙ M.defs;
+            left = O.left;
+            below = O.below;
+            steps = M.steps (P.steps 0);
+            run = λ is ei line base D0 D regs p bel inv lives Q n next.
+                M.run line mark base D0 D regs p inv lives Q n (P.steps 0)
+                (λ m le D2 regs2 p2 inv2 N wi path.
+                P.run (M.past line) mark base D0 D2 regs2 p2 inv2 Q m 0
+                (λ regs3 p3 inv3.
+                let infos : O.infos ≡ is = some_is O.infos is (sym O.info ∙ ei) in
+                let A = args_of D2 v.next v.entries e.results O.infos inv3.ctx.below inv3.ctx.rels O.info in
+                let left = live v.entries g D2.piece in
+                let kept = kept_less v.entries v.hold g (less_gone (all_vars O.infos) v.hold) inv3.ctx.kept in
+                subst (λ y. Code_run W proc Q m 0 f (do_all (P.past (M.past line)) y) regs3 p3) (sym O.none)
+                (W.laws.over at_code_end Q m 0 f p3 (at_code proc [] regs3) regs3 refl
+                (next regs3 p3
+                (subst (λ y. Block_end W R f mark base D0 D bs e.results rs (with_hold v g) y regs3 p3) infos
+                (record {
+                  now = D2;
+                  things = A.things;
+                  rel = A.rel;
+                  tags = A.tags;
+                  origins = A.origins;
+                  whole = A.whole (vars_whole f D2 v.entries v.hold inv3.ctx.shares inv3.ctx.kept (all_vars O.infos) A.among O.out.owned);
+                  values = A.values;
+                  words = words_read v.toks v.next D2 regs3 inv3.known rs (all_words O.infos) O.words ∙ sym A.words;
+                  known = record { old = inv3.known.old; is = inv3.known.is };
+                  count = inv3.count;
+                  ctx = rehold f mark base D0 v D2 p3 left g refl kept inv3.ctx;
+                  only =
+                      only_older mark g D2 v.entries inv3.ctx.rels O.left ∙ ap (λ y. live y g D2.piece) inv3.ctx.origin ∙
+                      live_same mark base g g D2.piece D0.piece bel (λ x lt. ap (at_hold (g x)) (inv3.ctx.agree.pieces x lt));
+                  kept = subst (Parts_kept g) inv3.ctx.origin (kept_older mark g v.entries kept);
+                  piece = inv3.ctx.piece ∙ goners_piece is_owned owned_there (all_vars O.infos) v.hold O.out.distinct O.out.owned v.next v.entries D2.piece inv3.ctx.below A.among ∙ ap (λ y. plus y left) (sym A.piece);
+                  turns = N;
+                  within = wi;
+                  path = path;
+                }))))));
+          };
         }
 
-    pub block_sound : (bs : Binds) → Sound W R proc f bs → (u : State) (code : List Instr) (lines : List Line) → OnFound (block R W.views (fit R W.views bs) count mark astray e rs u code lines) K → Block_met bs mark e.results rs u code K
-    block_sound bs ih u code lines h =
+    pub block_back : (bs : Binds) → Sound W R proc f bs → (u : State) (code : List Instr) (lines : List Line) → OnFound (block R W.views (fit R W.views bs) count mark astray e rs u code lines) K → Block_back astray bs mark e.results rs u code K
+    block_back bs ih u code lines h =
         let M = ih u code lines _ (then_found (fit R W.views bs u code lines) (end_block R W.views count mark astray e rs) K h) in
         let P = passed W R proc f M.rest M.end M.lines (Ending_of count mark astray e rs M.lines) K M.found in
         over bs u code M P (ends M.lines P.u P.is P.found)
+
+    pub block_sound : (bs : Binds) → Sound W R proc f bs → (u : State) (code : List Instr) (lines : List Line) → OnFound (block R W.views (fit R W.views bs) count mark astray e rs u code lines) K → Block_met bs mark e.results rs u code K
+    block_sound bs ih u code lines h = (block_back bs ih u code lines h).met
 
   -- ---- the end of a loop's condition
 

@@ -59,7 +59,7 @@ not_missed true false a v e ea ec = refl
 not_missed true true false v e ea ec = absurd (let z : ⊥ = cc ea in z)
 not_missed false g a v e ea ec = absurd (let z : ⊥ = cc ec in z)
 
-among_append : (v : ℕ) (us vs : List ℕ) → (is_among v us || is_among v vs) ≡ is_among v (us ++ vs)
+pub among_append : (v : ℕ) (us vs : List ℕ) → (is_among v us || is_among v vs) ≡ is_among v (us ++ vs)
 among_append v [] vs = refl
 among_append v (w ∷ us) vs = or_assoc (nat_eq v w) (is_among v us) (is_among v vs) ∙ ap (λ y. nat_eq v w || y) (among_append v us vs)
   where

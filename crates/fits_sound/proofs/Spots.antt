@@ -27,7 +27,7 @@ Spots_are hold [] (s ∷ ss) = ⊥
 Spots_are hold (i ∷ is) [] = ⊥
 Spots_are hold (i ∷ is) (s ∷ ss) = Spot_is hold i s × Spots_are hold is ss
 
-spot_found : (hold : ℕ → Hold) (es : List Entry) (v : ℕ) (e : Entry) → lookup es v ≡ Some e → spot_at (spots_of hold es) v ≡ spot_of hold e
+pub spot_found : (hold : ℕ → Hold) (es : List Entry) (v : ℕ) (e : Entry) → lookup es v ≡ Some e → spot_at (spots_of hold es) v ≡ spot_of hold e
 spot_found hold [] v e l = absurd (let o : ⊥ = cc l in o)
 spot_found hold (d ∷ es) v e l =
     cond_both {A = Option Entry} (eqb d.var v) (Some d) (lookup es v) (λ y. y ≡ Some e → spot_at (spots_of hold (d ∷ es)) v ≡ spot_of hold e)
@@ -151,6 +151,13 @@ moves book n astray s e m is ok ei =
       owned = subst (λ y. All_wanted is_owned y s.hold) (sym v) (owned_wanted s.hold is ss w t.owned);
       distinct = subst Distinct (sym v) (twice_distinct ss t.once);
     }
+
+-- the slices that are owed come back
+pub comes_back : (book : Book) (n : ℕ) (astray : List Shape → Option ℕ) (s : State) (e : Ending) (m : Moved) (is : List Info) → ended book n astray (ctx_of s) e ≡ Ok m → arg_infos s.entries e.results ≡ Some is → astray (info_shapes is) ≡ None
+comes_back book n astray s e m is ok ei =
+    let t = results_move book n astray (ctx_of s) e m ok in
+    let w = spots_are s.hold s.entries e.results is ei in
+    subst (λ y. astray y ≡ None) (t.shapes ∙ sym (shapes_are s.hold is (looked_up (spots_of s.hold s.entries) e.results) w)) t.back
 
 -- starting values move in
 pub starts_move : (book : Book) (s : State) (p : Place) (us : List Arg) (m : Moved) (is : List Info) → started book (ctx_of s) p us ≡ Ok m → arg_infos s.entries us ≡ Some is → Moves s.hold is

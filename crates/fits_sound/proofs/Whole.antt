@@ -1,6 +1,5 @@
--- The semantic theorem, for binds without `split` and calls: what fits is sound.
-use Rattle.std.proofs.Common.{◌≡◌, ℕ, suc, ◌<◌, ◌≤◌, length, true, ◌&&◌, List, [], ◌∷◌, arith, refl, sym, ap, ◌∙◌, subst}
-use Rattle.std.proofs.lemmas.Bool.{and_parts, false≢true}
+-- The semantic theorem: what fits is sound.
+use Rattle.std.proofs.Common.{◌≡◌, ℕ, suc, ◌<◌, ◌≤◌, length, List, [], ◌∷◌, arith, refl, sym, ap, ◌∙◌, subst}
 use Rattle.std.specs.Prelude.{Option, Some}
 use Rattle.nres_core.specs.FlatTree as t
 use Rattle.nres_core.specs.FlatTree.{Binds, Ending}
@@ -16,7 +15,6 @@ use Rattle.fits.specs.Places.{Entry, Info, arg_info, arg_infos, info_shapes, inf
 use Rattle.fits.specs.Follow.{OnFound, fit, row_step}
 use Rattle.fits_sound.specs.Meant.{Via_sound}
 use Rattle.fits_sound.specs.RowShapes.{row_on}
-use Rattle.fits_sound.specs.Served.{is_served}
 use Rattle.fits_sound.specs.World.{World, Row_sound}
 use Rattle.fits_sound.proofs.Found.{some_elim, found_is}
 use Rattle.fits_sound.proofs.Basic.{some_is}
@@ -31,7 +29,9 @@ use Rattle.fits_sound.proofs.Regs.{reg_sound}
 use Rattle.fits_sound.proofs.Rows.{call_sound}
 use Rattle.fits_sound.proofs.Sides.{either_sound, any_sound}
 use Rattle.fits_sound.proofs.Sound.{Met, Sound}
+use Rattle.fits_sound.proofs.SplitSound.{split_sound}
 use Rattle.fits_sound.proofs.Tests.{info_reps_are}
+use Rattle.fits_sound.proofs.Uses.{use_sound}
 
 -- as many arguments as infos
 infos_count : (es : List Entry) (us : List Arg) (is : List Info) → arg_infos es us ≡ Some is → length (info_shapes is) ≡ length us
@@ -72,27 +72,15 @@ module _ (W : World) (R : ℕ) (proc : Proc) (f : ℕ) where
   }
 
 module _ (W : World) where
-  pub sound : (bs : Binds) → is_served bs ≡ true → (R : ℕ) (proc : Proc) (f : ℕ) → Sound W R proc f bs
-  sound t.No_bind q R proc f = none_sound W R proc f
-  sound (t.Calc_to p to w x y rest) q R proc f = calc_sound W R proc f p to w x y rest (sound rest q R proc f)
-  sound (t.Apply_to p to op made us rest) q R proc f = row_sound W R proc f p to op made us rest (sound rest q R proc f)
-  sound (t.Assert p inner x rest) q R proc f = assert_sound W R proc f p inner x rest (sound rest q R proc f)
-  sound (t.If p to x l le r re rest) q R proc f =
-      let a = and_parts (is_served l) (is_served r && is_served rest) q in
-      let b = and_parts (is_served r) (is_served rest) a.1 in
-      if_sound W R proc f p to x l le r re rest (sound l a.0 R proc f) (sound r b.0 R proc f) (sound rest b.1 R proc f)
-  sound (t.While p to xs us cs x b be rest) q R proc f =
-      let a = and_parts (is_served cs) (is_served b && is_served rest) q in
-      let d = and_parts (is_served b) (is_served rest) a.1 in
-      loop_sound W R proc f p to xs us cs x b be rest (sound cs a.0 R proc f) (sound b d.0 R proc f) (sound rest d.1 R proc f)
-  sound (t.Par p to l le r re rest) q R proc f =
-      let a = and_parts (is_served l) (is_served r && is_served rest) q in
-      let b = and_parts (is_served r) (is_served rest) a.1 in
-      par_sound W R proc f p to l le r re rest (sound l a.0) (sound r b.0) (sound rest b.1 R proc f)
-  sound (t.Split p to list at i l le j r re rest) q R proc f = absurd (false≢true q)
-  sound (t.Either p to l le r re rest) q R proc f =
-      let a = and_parts (is_served l) (is_served r && is_served rest) q in
-      let b = and_parts (is_served r) (is_served rest) a.1 in
-      either_sound W R proc f p to l le r re rest (sound l a.0 R proc f) (sound r b.0 R proc f) (sound rest b.1 R proc f)
-  sound (t.Any p to x y rest) q R proc f = any_sound W R proc f p to x y rest (sound rest q R proc f)
-  sound (t.Call p to g us rest) q R proc f = absurd (false≢true q)
+  pub sound : (bs : Binds) (R : ℕ) (proc : Proc) (f : ℕ) → Sound W R proc f bs
+  sound t.No_bind R proc f = none_sound W R proc f
+  sound (t.Calc_to p to w x y rest) R proc f = calc_sound W R proc f p to w x y rest (sound rest R proc f)
+  sound (t.Apply_to p to op made us rest) R proc f = row_sound W R proc f p to op made us rest (sound rest R proc f)
+  sound (t.Assert p inner x rest) R proc f = assert_sound W R proc f p inner x rest (sound rest R proc f)
+  sound (t.If p to x l le r re rest) R proc f = if_sound W R proc f p to x l le r re rest (sound l R proc f) (sound r R proc f) (sound rest R proc f)
+  sound (t.While p to xs us cs x b be rest) R proc f = loop_sound W R proc f p to xs us cs x b be rest (sound cs R proc f) (sound b R proc f) (sound rest R proc f)
+  sound (t.Par p to l le r re rest) R proc f = par_sound W R proc f p to l le r re rest (sound l) (sound r) (sound rest R proc f)
+  sound (t.Split p to list at i l le j r re rest) R proc f = split_sound W R proc f p to list at i l le j r re rest (sound l) (sound r) (sound rest R proc f)
+  sound (t.Either p to l le r re rest) R proc f = either_sound W R proc f p to l le r re rest (sound l R proc f) (sound r R proc f) (sound rest R proc f)
+  sound (t.Any p to x y rest) R proc f = any_sound W R proc f p to x y rest (sound rest R proc f)
+  sound (t.Call p to g us rest) R proc f = use_sound W R proc f p to g us rest (sound rest R proc f)

@@ -14,6 +14,7 @@ use Rattle.rule_check.specs.Context.{Shape}
 use Rattle.rule_check.specs.Table.{Rule}
 use Rattle.run_laws.specs.RunLaws.{Laws}
 use Rattle.fits.specs.Follow.{Views, fates}
+use Rattle.fits_sound.specs.Called.{Callees}
 use Rattle.fits_sound.specs.Meant.{Via_sound}
 use Rattle.fits_sound.specs.RowShapes.{row_on, shape_reps, kept_count}
 
@@ -38,6 +39,8 @@ pub record World : Type 1 where
   pub rising : Rising calls
   -- the turns of a loop, where runs have to end
   pub limit : ℕ
+  -- the procedures of the text may be called
+  pub callees : Callees procs laws limit calls views.book.sigs
 
 module _ (W : World) where
   -- a stretch of code

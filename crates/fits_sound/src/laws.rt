@@ -6,7 +6,7 @@ ghost use Rattle.soundness.specs.Behaviour.{of_flat};
 ghost use Rattle.soundness.specs.Bound.{IsBoundedFor};
 ghost use Rattle.soundness.specs.Sound.{FlatSound};
 
-/// A stretch of code that fits binds without `split` and calls, in a program whose rows are sound.
+/// A stretch of code that fits binds, in a program whose rows are sound and whose procedures fit those of a text.
 pub trait Fits {
     ghost fitted: { Self → Fitted };
 }
@@ -20,14 +20,15 @@ pub fn what_fits_is_sound<C: Fits>()
     ensures bounded { (x : C) → IsBounded (C.fitted x) }
 {}
 
-/// A program that fits a specification whose own part has no `split` and no calls, with rows that are sound.
+/// A program that fits a specification and its procedures, with rows that are sound.
 pub trait FitsText {
     ghost fitted: { Self → FitsWhole };
 }
 
-/// A program that fits a specification is sound for it: from each start in whose values nothing can fail it is safe under
-/// every interleaving, and ends only with results that the specification allows. And its runs are bounded wherever the
-/// specification's paths end.
+/// A program that fits a specification is sound for it: from each start on whose values nothing can fail, with whatever
+/// capacity, every schedule under which no leaf lies below more than 64 forks reaches a state in which no leaf is stuck, no
+/// two race and none is unowned, and which is good where it has ended. And where each path of the specification ends, no
+/// such schedule is longer than a bound, and a state at rest is good or full.
 pub fn fitting_programs_are_sound<P: FitsText>()
     ensures sound { (x : P) → FlatSound (P.fitted x).text (P.fitted x).program }
     ensures bounded { (x : P) → IsBoundedFor (of_flat (P.fitted x).text) (P.fitted x).program }

@@ -11,10 +11,10 @@ use Rattle.target_meaning.specs.Leaf.{Run, begin, find}
 use Rattle.target_meaning.specs.Piece.{Piece, plus}
 use Rattle.target_meaning.proofs.Shares.{plus-comm}
 use Rattle.triple_logic.specs.Safe.{at_end}
-use Rattle.triple_logic.specs.Weakest.{Left}
+use Rattle.triple_logic.specs.Weakest.{End_fact, Left}
 use Rattle.relations.specs.Blocks.{AreWords}
 use Rattle.row_laws.specs.Rows as rows
-use Rattle.row_laws.specs.Rows.{Thing, values_of, words_of, pieces_of, AreTaken, Given, GivenEnd, RowLaw, Known, sizes, or_none, claim_of, most_steps, block_size}
+use Rattle.row_laws.specs.Rows.{Thing, values_of, words_of, pieces_of, AreTaken, AreGiven, Given, GivenEnd, Known, sizes, or_none, claim_of, most_steps, block_size}
 use Rattle.row_laws.proofs.Words.{words_append, no_words}
 use Rattle.run_laws.specs.RunLaws.{Laws}
 use Rattle.rule_check.specs.Context.{Shape}
@@ -26,6 +26,7 @@ use Rattle.rule_table.specs.Sound.{takes_at, fact_at, bound_first, rule_at, IsFo
 use Rattle.fits.specs.Follow.{fates, bound_words}
 use Rattle.fits_sound.specs.Meant.{some_pieces, Tagged, Row, Row_end, Small, Call_sound}
 use Rattle.fits_sound.specs.RowShapes.{shape_reps, gone_tag, need_of, row_on}
+use Rattle.rows_fit.proofs.Both.{Both, CallLaw}
 use Rattle.rows_fit.proofs.Shapes.{taken, given_up, left_over, results_rel, results_whole}
 
 -- ---- steps that no value decides
@@ -98,25 +99,27 @@ module _ (T : List Proc) (L : Laws T) (lib_name : LibName → List ℕ) (zs : Li
   abbrev row : Row
   row = row_on zs made x
 
-  -- what the row's law does not say: a slice that it gives is the one that it took
-  abbrev pub KeepsTags : Type 0
-  KeepsTags = (W : ℕ → ℕ → ℕ) (things outs : List Thing) → Tagged W zs things → Tagged W (row_shapes u (gone_tag x.takes zs) x.gives) outs
+  -- that the end of a row's procedure says what its law does not: a slice that it gives is the one that it took
+  abbrev pub KeepsTags : (List Thing → End_fact) → Type 0
+  KeepsTags E =
+      (W : ℕ → ℕ → ℕ) (things outs : List Thing) (a vs : List ℕ) (q : Piece) → AreTaken rule.takes things → AreGiven rule.gives outs → vs ≡ words_of outs → E things a vs q → Tagged W zs things
+      → Tagged W (row_shapes u (gone_tag x.takes zs) x.gives) outs
 
-  row_end : KeepsTags → (things : List Thing) (vs : List ℕ) (q : Piece) → Given rule things vs q → Row_end x.op row things vs q
-  row_end tags things vs q g = record {
+  row_end : (E : List Thing → End_fact) → KeepsTags E → (things : List Thing) (a vs : List ℕ) (q : Piece) → AreTaken rule.takes things → Given rule things vs q → E things a vs q → Row_end x.op row things vs q
+  row_end E tags things a vs q held g e = record {
     outs = g.outs;
     related = results_rel u (gone_tag x.takes zs) x.gives g.outs g.related;
     whole = results_whole u x.gives g.outs g.related;
     gives = g.outcome;
     words = g.registers;
-    tags = λ W t. tags W things g.outs t;
+    tags = λ W t. tags W things g.outs a vs q held g.related g.registers e t;
     piece = g.piece ∙ (plus-comm (pieces_of g.outs) (rows.kept (takes_at u x.takes) things) ∙ ap (λ y. plus y (pieces_of g.outs)) (left_over u x.takes things));
   }
 
   pub row_call : u < 2 ^ 32 → takes_these x.takes (shape_reps zs) ≡ true → bounds_are u (shape_reps zs) ≡ true → bound_first u (own_kind x.made x.takes) ≡ bound_words made (shape_reps zs)
-      → (claim : (vs : List Value) (ws : List ℕ) → AreWords ws → or_none (claims u name vs ws) ≤ most_words) → KeepsTags
-      → IsFound T (procedure name) → lib_name name ≡ (procedure name).name → RowLaw T rule → Call_sound T L x.op row (lib_name name)
-  row_call small fit bounds first claim tags found named law = record {
+      → (claim : (vs : List Value) (ws : List ℕ) → AreWords ws → or_none (claims u name vs ws) ≤ most_words) → (E : List Thing → End_fact) → KeepsTags E
+      → IsFound T (procedure name) → lib_name name ≡ (procedure name).name → CallLaw T rule E → Call_sound T L x.op row (lib_name name)
+  row_call small fit bounds first claim E tags found named law = record {
     proc = procedure name;
     found = subst (λ y. find T y ≡ Some (procedure name)) (sym named) found;
     steps = most_steps (all_most x.takes + most_words);
@@ -129,7 +132,7 @@ module _ (T : List Proc) (L : Laws T) (lib_name : LibName → List ℕ) (zs : Li
         (subst (λ y. L.run at_end (Row_end x.op row things) n (most_steps (sizes (takes_at u x.takes) things + or_none (claim_of rule things))) f (plus (some_pieces true (fates x.takes) things) (some_pieces false (fates x.takes) things)) (Run (begin (procedure name) (y ++ words_of things)) [])) first
         (subst (λ y. L.run at_end (Row_end x.op row things) n (most_steps (sizes (takes_at u x.takes) things + or_none (claim_of rule things))) f (plus (some_pieces true (fates x.takes) things) y) (Run (begin (procedure name) (bound_first u (own_kind x.made x.takes) ++ words_of things)) [])) (left_over u x.takes things)
         (subst (λ y. L.run at_end (Row_end x.op row things) n (most_steps (sizes (takes_at u x.takes) things + or_none (claim_of rule things))) f (plus y (rows.kept (takes_at u x.takes) things)) (Run (begin (procedure name) (bound_first u (own_kind x.made x.takes) ++ words_of things)) [])) (given_up u x.takes things)
-        (L.weaker at_end (Left (GivenEnd rule things)) (Row_end x.op row things) n (most_steps (sizes (takes_at u x.takes) things + or_none (claim_of rule things))) f _ _ (λ vs q h hs m. row_end tags things vs q m.1)
-        (L.ended at_end (GivenEnd rule things) n (most_steps (sizes (takes_at u x.takes) things + or_none (claim_of rule things))) f (option_to_list (claim_of rule things)) (plus (rows.destroyed (takes_at u x.takes) things) (rows.kept (takes_at u x.takes) things)) (Run (begin (procedure name) (bound_first u (own_kind x.made x.takes) ++ words_of things)) [])
+        (L.weaker at_end (Left (Both (GivenEnd rule things) (E things))) (Row_end x.op row things) n (most_steps (sizes (takes_at u x.takes) things + or_none (claim_of rule things))) f _ _ (λ vs q h hs m. row_end E tags things m.0 vs q held m.1.0 m.1.1)
+        (L.ended at_end (Both (GivenEnd rule things) (E things)) n (most_steps (sizes (takes_at u x.takes) things + or_none (claim_of rule things))) f (option_to_list (claim_of rule things)) (plus (rows.destroyed (takes_at u x.takes) things) (rows.kept (takes_at u x.takes) things)) (Run (begin (procedure name) (bound_first u (own_kind x.made x.takes) ++ words_of things)) [])
         (law things held ok (known_by u x.fact (values_of things) need)))))));
   }

@@ -1,7 +1,10 @@
-mod AllRows
+pub mod AllRows
+mod Both
 mod Calls
 mod Claims
-mod Found
+pub mod Found
 mod Leading
 mod Rows
 mod Shapes
+mod Slices
+mod Through

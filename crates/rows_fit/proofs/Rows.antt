@@ -1,5 +1,5 @@
--- Rows of the table that give no slice.
-use Rattle.std.specs.Prelude.{◌≡◌, ℕ, ◌^◌, ◌<◌, true, false, List, [], ◌∷◌, slice_index, Option}
+-- A row of the table.
+use Rattle.std.specs.Prelude.{◌≡◌, ℕ, ◌^◌, ◌<◌, Bool, true, false, List, [], ◌∷◌, slice_index, Option}
 use Rattle.std.proofs.Common.{refl, sym, subst}
 use Rattle.std.proofs.lemmas.Bool.{and_parts}
 use Rattle.nres_core.specs.Ops.{op_out}
@@ -16,18 +16,21 @@ use Rattle.target_code.specs.declared.tree.Rep.{Rep}
 use Rattle.relations.specs.Represents.{Represents}
 use Rattle.row_laws.specs.Rows.{Thing, values_of}
 use Rattle.run_laws.specs.RunLaws.{Laws}
+use Rattle.triple_logic.specs.Weakest.{End_fact}
 use Rattle.rule_check.specs.Context.{Shape, bound_in}
 use Rattle.rule_check.specs.Steps.{op_bound}
 use Rattle.rule_check.specs.Table.{Rule, Take, kind_of, same_kind, takes_these, makes_this, one_bound, bounds_are, bound_is}
 use Rattle.rule_table.specs.RowProcedures.{procedure}
-use Rattle.rule_table.specs.Sound.{RegisterRow, SoundBy}
-use Rattle.fits_sound.specs.Meant.{All_rel, Row, Via_sound}
+use Rattle.rule_table.specs.Sound.{RegisterRow, SoundBy, rule_at}
+use Rattle.fits_sound.specs.Meant.{All_rel, Row, Call_sound, Via_sound}
 use Rattle.fits_sound.specs.RowShapes.{shape_reps, gone_tag, row_on}
-use Rattle.rows_fit.proofs.Shapes.{taken_rep, no_tags}
-use Rattle.rows_fit.specs.RowsFit.{no_slice}
-use Rattle.rows_fit.proofs.Calls.{reg_word, row_call}
+use Rattle.rows_fit.proofs.Shapes.{taken_rep, no_slice, no_tags}
+use Rattle.rows_fit.proofs.Both.{CallLaw, Any_end, nothing_besides}
+use Rattle.rows_fit.proofs.Calls.{reg_word, row_call, KeepsTags}
 use Rattle.rows_fit.proofs.Claims.{claims_most}
 use Rattle.rows_fit.proofs.Leading.{leads, first_words, all_bounds}
+use Rattle.rows_fit.proofs.Slices.{Stays}
+use Rattle.rows_fit.proofs.Through.{Through, ThroughBy, stay_tags}
 
 -- ---- rows by register
 
@@ -63,9 +66,19 @@ module _ (T : List Proc) (L : Laws T) (lib_name : LibName → List ℕ) (named :
   abbrev u : ℕ
   u = op_bound made (shape_reps zs)
 
-  pub via : u < 2 ^ 32 → takes_these x.takes (shape_reps zs) ≡ true → makes_this x.made made ≡ true → one_bound (shape_reps zs) ≡ true → leads x.made x.takes ≡ true → no_slice x.gives ≡ true
-      → (code : RowCode) → SoundBy T u x code → Via_sound T L lib_name x.op (row_on zs made x) code
-  via small fit makes bound lead free (c.Register j) law = registers u x.op zs (row_on zs made x) refl x.takes x.gives j fit (all_bounds x.made x.takes made (shape_reps zs) fit makes lead bound) law
-  via small fit makes bound lead free (c.Proc name) law =
-      row_call T L lib_name zs made x name small fit (all_bounds x.made x.takes made (shape_reps zs) fit makes lead bound) (first_words x.made x.takes made (shape_reps zs) fit makes lead)
-      (λ vs ws all. claims_most u name small vs ws all) (λ W things outs t. no_tags W u (gone_tag x.takes zs) x.gives outs free) law.0 (named name) law.1
+  pub via : u < 2 ^ 32 → takes_these x.takes (shape_reps zs) ≡ true → makes_this x.made made ≡ true → one_bound (shape_reps zs) ≡ true → leads x.made x.takes ≡ true → Through T u x (no_slice x.gives)
+      → (code : RowCode) → x.code ≡ code → SoundBy T u x code → Via_sound T L lib_name x.op (row_on zs made x) code
+  via small fit makes bound lead through (c.Register j) h law = registers u x.op zs (row_on zs made x) refl x.takes x.gives j fit (all_bounds x.made x.takes made (shape_reps zs) fit makes lead bound) law
+  via small fit makes bound lead through (c.Proc name) h law = by (no_slice x.gives) refl through
+    where
+      call : (E : List Thing → End_fact) → KeepsTags T L lib_name zs made x name E → CallLaw T (rule_at u x name) E → Call_sound T L x.op (row_on zs made x) (lib_name name)
+      call E tags full =
+          row_call T L lib_name zs made x name small fit (all_bounds x.made x.takes made (shape_reps zs) fit makes lead bound) (first_words x.made x.takes made (shape_reps zs) fit makes lead)
+          (λ vs ws all. claims_most u name small vs ws all) E tags law.0 (named name) full
+
+      by : (b : Bool) → no_slice x.gives ≡ b → Through T u x b → Call_sound T L x.op (row_on zs made x) (lib_name name)
+      by true free t =
+          call (Any_end T (rule_at u x name)) (λ W things outs a vs q held given words e tags. no_tags W u (gone_tag x.takes zs) x.gives outs free) (nothing_besides T (rule_at u x name) law.1)
+      by false some t =
+          let s : ThroughBy T u x (c.Proc name) = subst (ThroughBy T u x) h t in
+          call Stays (λ W things outs a vs q held given words e tags. stay_tags W u x.takes x.gives zs things outs vs s.0 s.1 fit held given words e tags) s.2

@@ -1,5 +1,5 @@
 -- From the law of a row to what the proof about fitting programs wants of it: arguments, pieces, results, steps.
-use Rattle.std.specs.Prelude.{◌≡◌, ℕ, nat_eq, true, false, cond, List, [], ◌∷◌}
+use Rattle.std.specs.Prelude.{◌≡◌, ℕ, nat_eq, Bool, true, false, cond, List, [], ◌∷◌}
 use Rattle.std.proofs.Common.{refl, sym, ap, ◌∙◌, subst}
 use Rattle.std.proofs.lemmas.Bool.{and_parts, eqb-true}
 use Rattle.nres_core.specs.declared.row.Fate.{Fate}
@@ -20,7 +20,6 @@ use Rattle.start_ends.specs.Things.{Wholes}
 use Rattle.fits.specs.Follow.{fates}
 use Rattle.fits_sound.specs.Meant.{All_rel, Destroyed_whole, some_pieces, Tagged}
 use Rattle.fits_sound.specs.RowShapes.{shape_reps}
-use Rattle.rows_fit.specs.RowsFit.{no_slice}
 
 -- a kind by its number
 abbrev kind_at : ℕ → Kind
@@ -120,6 +119,12 @@ results_whole u [] [] h = tt
 results_whole u [] (x ∷ xs) h = absurd h
 results_whole u (y ∷ ys) [] h = absurd h
 results_whole u (y ∷ ys) (x ∷ xs) h = (h.1, results_whole u ys xs h.2)
+
+-- none of these is a slice
+abbrev pub no_slice : List Kind → Bool
+no_slice [] = true
+no_slice (k.Slice ∷ gs) = false
+no_slice (g ∷ gs) = no_slice gs
 
 -- results that are no slices need no tags
 pub no_tags : (W : ℕ → ℕ → ℕ) (u g : ℕ) (gs : List Kind) (outs : List Thing) → no_slice gs ≡ true → Tagged W (row_shapes u g gs) outs

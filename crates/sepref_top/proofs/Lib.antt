@@ -1,5 +1,7 @@
 pub mod Cuts
 pub mod Firsts
 pub mod Names
+pub mod OneFlat
+pub mod Rules
 pub mod Told
 pub mod Tops

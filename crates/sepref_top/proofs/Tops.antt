@@ -33,6 +33,7 @@ module _ (old new : Option (List ℕ)) (output : List ℕ) where
   gave l (status.TooDeep q) h d = d
   gave l status.Type_ h d = d
   gave l status.Input h d = d
+  gave l status.NoRule h d = d
   gave l (status.NotProgram k) h d = d
   gave l (status.Fails k) h d = d
   gave l (status.OutOfTurns k) h d = d
@@ -83,6 +84,7 @@ module _ (old new : Option (List ℕ)) (output : List ℕ) where
       wrote_kept (status.TooDeep q) m f d a = (output, d, a)
       wrote_kept status.Type_ m f d a = (output, d, a)
       wrote_kept status.Input m f d a = (output, d, a)
+      wrote_kept status.NoRule m f d a = (output, d, a)
       wrote_kept (status.NotProgram k) m f d a = (output, d, a)
       wrote_kept (status.Fails k) m f d a = (output, d, a)
       wrote_kept (status.OutOfTurns k) m f d a = (output, d, a)
@@ -132,6 +134,7 @@ module _ (l : Line) (old new : Option (List ℕ)) (output text : List ℕ) (know
   due_told (status.TooDeep q) n d = told_so (status.TooDeep q) tt d
   due_told status.Type_ n d = told_so status.Type_ tt d
   due_told status.Input n d = told_so status.Input tt d
+  due_told status.NoRule n d = told_so status.NoRule tt d
   due_told (status.NotProgram k) n d = told_so (status.NotProgram k) tt d
   due_told (status.Fails k) n d = told_so (status.Fails k) tt d
   due_told (status.OutOfTurns k) n d = told_so (status.OutOfTurns k) tt d

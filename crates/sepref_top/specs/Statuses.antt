@@ -10,6 +10,7 @@ code_of status.Usage = 1
 code_of (status.Syntax p) = 2
 code_of (status.TooDeep p) = 2
 code_of status.Type_ = 3
+code_of status.NoRule = 4
 code_of status.Input = 5
 code_of (status.NotProgram k) = 9
 code_of status.TooLong = 11
@@ -28,13 +29,14 @@ placed words p = words ++ (decimal p.line ++ (codes " " ++ (decimal p.column ++ 
 abbrev pub numbered : List ℕ → ℕ → List ℕ
 numbered words n = words ++ (decimal n ++ (10 ∷ []))
 
--- a line and its line feed; those of a type error and of an input tell more than the status
+-- a line and its line feed; those of a type error, of a refusal by the rules and of an input tell more than the status
 abbrev pub line_of : Status → List ℕ
 line_of status.Done = []
 line_of status.Usage = codes "! usage" ++ (10 ∷ [])
 line_of (status.Syntax p) = placed (codes "! syntax ") p
 line_of (status.TooDeep p) = placed (codes "! too deep ") p
 line_of status.Type_ = []
+line_of status.NoRule = []
 line_of status.Input = []
 line_of (status.NotProgram k) = numbered (codes "! not a program ") k
 line_of status.TooLong = codes "! too long" ++ (10 ∷ [])

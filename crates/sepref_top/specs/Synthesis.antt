@@ -1,15 +1,19 @@
 -- What `check` and `synth` write for a specification.
-use Rattle.std.specs.Prelude.{◌≡◌, ℕ, Bool, List, [], ◌∷◌}
+use Rattle.std.specs.Prelude.{◌≡◌, ℕ, Bool, List, [], ◌∷◌, Option, Some, None}
 use Rattle.std.specs.List.{list_all}
 use Rattle.target_code.specs.Formed.{Formed}
 use Rattle.target_code.specs.declared.tree.Program.{Program}
 use Rattle.target_lines.specs.Programs.{program_text}
 use Rattle.nres_core.specs.FlatTree.{FlatWhole}
+use Rattle.nres_core.specs.declared.refusal.Refusal.{Refusal}
 use Rattle.nres_rules.specs.Identify.{IsFlatOf}
 use Rattle.nres_core.specs.Vocabulary.{is_free_name}
 use Rattle.nres_core.specs.declared.tree.Param.{Param}
 use Rattle.nres_core.specs.declared.tree.Spec.{Spec}
 use Rattle.nres_print.specs.Blocks.{spec_text}
+use Rattle.rule_check.specs.Check.{refusal_of}
+use Rattle.rule_check.specs.Table.{row_for}
+use Rattle.rule_lines.specs.RuleLines.{rule_line}
 use Rattle.sepref_top.specs.Statuses.{line_of}
 use Rattle.sepref_top.specs.declared.status.Status.{Status}
 use Rattle.sepref_top.specs.declared.status.Status.TheVariants as status
@@ -20,11 +24,20 @@ use Rattle.soundness.specs.Samples.{array_get}
 use Rattle.soundness.specs.Shape.{Shape}
 use Rattle.soundness.specs.Sound.{Sound}
 
--- the output is the text of a formed program of the specification's shape, which is sound for it, and whose runs are bounded where the specification ends
+-- what the rules say of the one flat tree of a specification: the first refusal, or none
+pub record RulesSay (spec : Spec) (said : Option Refusal) : Type 0 where
+  pub flat : FlatWhole
+  pub flat_is : IsFlatOf spec flat
+  pub only : (other : FlatWhole) → IsFlatOf spec other → other ≡ flat
+  pub says : refusal_of row_for flat ≡ said
+
+-- the rules pass, and the output is the text of a formed program of the specification's shape, which is sound for it, and whose runs are bounded where the
+-- specification ends
 pub record Printed (spec : Spec) (output : List ℕ) : Type 0 where
   pub program : Program
   pub flat : FlatWhole
   pub served : IsSmallest spec
+  pub passes : RulesSay spec None
   pub formed : Formed program
   pub flat_is : IsFlatOf spec flat
   pub shape : Shape (array_get ∷ []) flat program
@@ -32,25 +45,33 @@ pub record Printed (spec : Spec) (output : List ℕ) : Type 0 where
   pub bounded : IsBoundedFor (of_spec spec) program
   pub written : output ≡ program_text program
 
--- the output is the canonical text of a specification that is served
+-- the rules pass, and the output is the canonical text
 pub record Canonical (spec : Spec) (output : List ℕ) : Type 0 where
-  pub served : IsSmallest spec
+  pub passes : RulesSay spec None
   pub written : output ≡ spec_text spec
 
--- the specification is not served
+-- the rules refuse the specification, and the output tells the first refusal
+pub record TellsRefusal (spec : Spec) (output : List ℕ) : Type 0 where
+  pub refusal : Refusal
+  pub refused : RulesSay spec (Some refusal)
+  pub written : output ≡ rule_line refusal
+
+-- the rules pass, and the specification is not served
 pub record NotServed (spec : Spec) (output : List ℕ) : Type 0 where
   pub other : ¬ IsSmallest spec
+  pub passes : RulesSay spec None
   pub written : output ≡ line_of status.NotYet
 
 -- a status and an output tell what `synth` says of a typed specification, and what `check` says
 abbrev pub Translated : Spec → Status → List ℕ → Type 0
 Translated p status.Done output = Printed p output
+Translated p status.NoRule output = TellsRefusal p output
 Translated p status.NotYet output = NotServed p output
 Translated p s output = ⊥
 
 abbrev pub Checked : Spec → Status → List ℕ → Type 0
 Checked p status.Done output = Canonical p output
-Checked p status.NotYet output = NotServed p output
+Checked p status.NoRule output = TellsRefusal p output
 Checked p s output = ⊥
 
 -- the names of parameters are names, and not reserved

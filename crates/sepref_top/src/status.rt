@@ -18,6 +18,8 @@ pub enum Status {
     TooDeep(Place),
     /// The specification is not typed; the line tells where and why.
     Type_,
+    /// The rules refuse the specification; the line tells where and why.
+    NoRule,
     /// The values are not those of the parameters; the line tells of which and why.
     Input,
     /// What stands before the values is the text of no program: this line is refused.
@@ -51,6 +53,7 @@ impl Status {
             Status::Usage => 1,
             Status::Syntax(_) | Status::TooDeep(_) => 2,
             Status::Type_ => 3,
+            Status::NoRule => 4,
             Status::Input => 5,
             Status::NotProgram(_) => 9,
             Status::TooLong => 11,

@@ -92,7 +92,7 @@ fn write_answer<K: Sink>(sink: &mut K, answer: &Answer) -> Status
 }
 
 /// Does what the words ask for, with the bytes that the source gives, and writes to the sink. It waits for nobody and
-/// returns. Served today are `eval`, on every specification, and `check` and `synth` on the smallest specifications; `run` and
+/// returns. Served today are `eval` and `check`, on every specification, and `synth` on the smallest specifications; `run` and
 /// `exec` read their input and answer `NotYet`, `run` where it is a typed specification, `exec` where it is a program with values.
 pub fn calm_main<S: Source, K: Sink>(
     alloc: Global,
@@ -115,7 +115,7 @@ pub fn calm_main<S: Source, K: Sink>(
     // program of its shape, which is sound for it.
     ensures sound { (line : LineOf) → asked words.now ≡ Some line → line.command ≡ Command.Synth → result ≡ Status.Done
         → Went IsSynthesis (S.remaining source.old) (S.remaining source.new) (K.contents sink.old) (K.contents sink.new) }
-    // The bytes that were read are a typed specification, and the bytes that were written its canonical text.
+    // The bytes that were read are a typed specification that the rules pass, and the bytes that were written its canonical text.
     ensures canonical { (line : LineOf) → asked words.now ≡ Some line → line.command ≡ Command.Check → result ≡ Status.Done
         → Went IsCanonical (S.remaining source.old) (S.remaining source.new) (K.contents sink.old) (K.contents sink.new) }
     // The bytes that were read are a typed specification with a value for each parameter, and the bytes that were written are the

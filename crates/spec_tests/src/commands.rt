@@ -55,9 +55,9 @@ const CHECKS: [(&str, u8, &str); 6] = [
         ONE,
     ),
     (
+        "spec one () : nat\n  return 1+1\nend\n",
+        0,
         "spec one () : nat\n  return 1 + 1\nend\n",
-        40,
-        "! not yet\n",
     ),
     ("spec one () nat", 2, "! syntax 1 13\n"),
     (

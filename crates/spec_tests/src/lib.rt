@@ -17,6 +17,10 @@ mod faults;
 #[cfg(test)]
 mod flat;
 #[cfg(test)]
+mod passes;
+#[cfg(test)]
+mod rules;
+#[cfg(test)]
 mod runs;
 #[cfg(test)]
 mod streams;

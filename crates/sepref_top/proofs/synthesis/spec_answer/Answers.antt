@@ -25,7 +25,7 @@ returns-in-Err-TooDeep c = (
 )
 
 pub served-requires : goal.served-requires
-served-requires c = names.parameters_have_names c.in-Ok.ensures.ok
+served-requires c = record { names = names.parameters_have_names c.in-Ok.ensures.ok; typed = c.in-Ok-type_of.ensures.typed }
 
 pub returns : goal.returns
 returns c = (

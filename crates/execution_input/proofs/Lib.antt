@@ -1,0 +1,4 @@
+pub mod Cuts
+pub mod Counts
+pub mod Numbers
+pub mod Held

@@ -1,0 +1,9 @@
+//! Laws of values. Each function does nothing; its contract is the law.
+
+ghost use Rattle.execution_input.specs.Values.{GivenValuesAreHeld};
+
+/// The numbers of the values that a text of fewer than 2^32 bytes gives to inputs are words, and they have fewer than 2^32
+/// elements.
+pub fn given_values_are_held()
+    ensures { GivenValuesAreHeld }
+{}

@@ -1,0 +1,4 @@
+mod Acts
+mod Codes
+pub mod Fewer
+mod Moves

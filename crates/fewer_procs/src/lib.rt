@@ -1,0 +1,4 @@
+//! A program runs as with procedures beside that it never calls.
+#![tactic(auto)]
+
+pub mod laws;

@@ -1,0 +1,3 @@
+pub mod Follows
+mod Less
+mod Steps

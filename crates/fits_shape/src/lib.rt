@@ -1,0 +1,4 @@
+//! What fits has the shape of its specification.
+#![tactic(auto)]
+
+pub mod laws;

@@ -1,0 +1,4 @@
+//! A program that fits the flat tree of a typed text is sound for the text.
+#![tactic(auto)]
+
+pub mod laws;

@@ -1,0 +1,16 @@
+pub mod Gets
+pub mod LentLists
+pub mod SwapSteps
+pub mod Pieces
+pub mod Widened
+pub mod Sound
+pub mod Ended
+pub mod Takings
+pub mod CutSteps
+pub mod Puts
+pub mod Quiet
+pub mod Owned
+pub mod Listed
+pub mod Narrowed
+pub mod Cleared
+pub mod Grown

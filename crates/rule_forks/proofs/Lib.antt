@@ -1,0 +1,4 @@
+mod ClosingLemmas
+mod OpeningLemmas
+mod ResultsLemmas
+pub mod StepsOfForks

@@ -1,0 +1,4 @@
+pub mod Closing
+pub mod Forks
+pub mod Laws
+pub mod Parts

@@ -1,0 +1,5 @@
+pub mod Rows
+pub mod Laying
+pub mod Starting
+pub mod Unfit
+pub mod Fitting
