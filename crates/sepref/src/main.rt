@@ -1,8 +1,9 @@
 //! The program: it hands the words, standard input and standard output to the top call, and ends with the status's number.
 #![tactic(auto)]
 
+use plain_store::memory::PlainStore;
 use sep_io::{StdSink, StdSource};
-use sepref_top::calm_main;
+use sepref_runs::sepref_main;
 use std::alloc::{AllocError, Global};
 use std::env::Args;
 use std::io::ErrorKind;
@@ -43,6 +44,11 @@ fn main(rt: HostRuntime) -> ExitCode {
     };
     let mut source = StdSource::new(rt.stdin());
     let mut sink = StdSink::new(io::writer(&rt));
-    let status = calm_main(rt.alloc(), words.as_slice(), &mut source, &mut sink);
+    let status = sepref_main::<PlainStore, _, _>(
+        rt.alloc(),
+        words.as_slice(),
+        &mut source,
+        &mut sink,
+    );
     ExitCode::from(status.code())
 }

@@ -1,0 +1,165 @@
+//! The call that does all that the program does.
+
+ghost use Rattle.std.specs.Prelude.{ℕ, ◌≡◌, ◌≢◌, ◌↔◌, ◌<◌, ◌≤◌, ◌^◌, Some, IfOk, take, true};
+ghost use Rattle.std.specs.Io.KnownBytes.{Appends};
+ghost use Rattle.sep_io.specs.Faults.{Gave, Rose};
+ghost use Rattle.sepref_top.specs.CommandWords.{asked};
+ghost use Rattle.sepref_top.specs.Outcome.{longest};
+ghost use Rattle.sepref_top.specs.declared.words.Line.{Line as LineOf};
+ghost use Rattle.sepref_runs.specs.Calm.{IsCalm, IsExecLine, RunsNothing, is_exec};
+ghost use Rattle.sepref_runs.specs.Runs.{Due, HasResults, Says, TellsLength, UnlessLost, Went, Wrote};
+ghost use Rattle.sepref_runs.specs.Texts.{bytes_of, told_status};
+
+use crate::execution::text_told;
+use crate::status::RunStatus;
+use crate::telling::{Telling, Text};
+use run_stores::RunStore;
+use sep_io::{ReadEnd, Sink, Source, read_all, write_all};
+use sepref_top::{Command, Line, Status, calm_main, read_words};
+use std::alloc::{AllocError, Global};
+
+/// The longest input, in bytes.
+const LONGEST: u64 = 1_048_576;
+
+/// What `exec` writes for the text that a source gave. A text that is longer is never read whole.
+fn whole_told<S: RunStore + Drop>(
+    alloc: Global,
+    line: Line,
+    text: &[u8],
+) -> Result<Telling, AllocError>
+    requires few { line.steps ≤ 2 ^ 62 }
+    ensures { IfOk result (λ told. Says line text.now told.status (bytes_of told.text)) }
+{
+    if text.len() as u64 > LONGEST {
+        return Err(AllocError);
+    }
+    text_told::<S>(alloc, line, text)
+}
+
+/// What is due to a command line of `exec`: a status, and what is to be written for it.
+fn source_told<S: RunStore + Drop, I: Source>(
+    alloc: Global,
+    line: Line,
+    source: &mut I,
+) -> Result<Telling, AllocError>
+    requires few { line.steps ≤ 2 ^ 62 }
+    ensures due { IfOk result (λ told. Due line (I.remaining source.old) (I.remaining source.new) told.status (bytes_of told.text)) }
+    ensures fault { told_status result ≡ RunStatus.Calm Status.ReadFault → Rose (I.faults source.old) (I.faults source.new) }
+    ensures gave { (n : ℕ) × (Gave (I.remaining source.old) (I.remaining source.new) n
+        × ((longest < n → told_status result ≡ RunStatus.Calm Status.TooLong) × (told_status result ≡ RunStatus.Calm Status.TooLong → longest < n))) }
+    ensures count { I.faults source.old ≤ I.faults source.new }
+{
+    match read_all(alloc, source, LONGEST) {
+        Ok(text) => whole_told::<S>(alloc, line, text.as_slice()),
+        Err(ReadEnd::Fault) => Ok(Telling {
+            status: RunStatus::Calm(Status::ReadFault),
+            text: Text::Fixed(b"! read fault\n"),
+        }),
+        Err(ReadEnd::TooLong) => Ok(Telling {
+            status: RunStatus::Calm(Status::TooLong),
+            text: Text::Fixed(b"! too long\n"),
+        }),
+        Err(ReadEnd::Memory) => Err(AllocError),
+    }
+}
+
+/// Writes what is told, and says how that went.
+fn write_told<K: Sink>(sink: &mut K, told: &Telling) -> RunStatus
+    ensures status { UnlessLost told.now.status result }
+    ensures whole { result ≢ RunStatus.Calm Status.WriteFault → Appends (K.contents sink.old) (K.contents sink.new) (bytes_of told.now.text) }
+    ensures front { result ≡ RunStatus.Calm Status.WriteFault → told.now.status ≢ RunStatus.Calm Status.WriteFault
+        → (n : ℕ) × Appends (K.contents sink.old) (K.contents sink.new) (take n (bytes_of told.now.text)) }
+    ensures fault { result ≡ RunStatus.Calm Status.WriteFault → told.now.status ≢ RunStatus.Calm Status.WriteFault
+        → Rose (K.faults sink.old) (K.faults sink.new) }
+    ensures count { K.faults sink.old ≤ K.faults sink.new }
+{
+    match write_all(sink, told.bytes()) {
+        Ok(()) => told.status,
+        Err(_) => RunStatus::Calm(Status::WriteFault),
+    }
+}
+
+/// Serves a command line of `exec`.
+fn exec_main<S: RunStore + Drop, I: Source, K: Sink>(
+    alloc: Global,
+    line: Line,
+    source: &mut I,
+    sink: &mut K,
+) -> RunStatus
+    requires few { line.steps ≤ 2 ^ 62 }
+    ensures wrote { Wrote (Due line (I.remaining source.old) (I.remaining source.new)) (K.contents sink.old) (K.contents sink.new) result }
+    ensures counted { TellsLength result (I.remaining source.old) (I.remaining source.new) }
+    ensures read_fault { result ≡ RunStatus.Calm Status.ReadFault → Rose (I.faults source.old) (I.faults source.new) }
+    ensures write_fault { result ≡ RunStatus.Calm Status.WriteFault → Rose (K.faults sink.old) (K.faults sink.new) }
+    ensures unwritten { result ≡ RunStatus.Calm Status.Memory → sink.new ≡ sink.old }
+    ensures read_count { I.faults source.old ≤ I.faults source.new }
+    ensures write_count { K.faults sink.old ≤ K.faults sink.new }
+{
+    match source_told::<S, I>(alloc, line, source) {
+        Ok(told) => write_told(sink, &told),
+        Err(AllocError) => RunStatus::Calm(Status::Memory),
+    }
+}
+
+/// Whether a command is `exec`.
+fn is_exec(command: Command) -> bool
+    ensures { result ≡ is_exec command }
+{
+    matches!(command, Command::Exec)
+}
+
+/// A command line, where it is one of `exec`.
+fn only_exec(line: Line) -> Option<Line>
+    ensures { IsExecLine result (Some line) }
+{
+    if is_exec(line.command) {
+        Some(line)
+    } else {
+        None
+    }
+}
+
+/// The command line that words are, where it is one of `exec`.
+fn exec_line(words: &[String]) -> Option<Line>
+    ensures { IsExecLine result (asked words.now) }
+{
+    match read_words(words) {
+        Some(line) => only_exec(line),
+        None => None,
+    }
+}
+
+/// Does what the words ask for, with the bytes that the source gives, and writes to the sink. It serves `exec`, on one
+/// worker and over stores of this kind; all other words go to [`calm_main`] as they are.
+pub fn sepref_main<S: RunStore + Drop, I: Source, K: Sink>(
+    alloc: Global,
+    words: &[String],
+    source: &mut I,
+    sink: &mut K,
+) -> RunStatus
+    // At status 0 of `exec` the bytes that were read are a program with a value for each of its inputs, and the bytes that were
+    // written are the lines of the values that its results represent where the left-first run from the beginning on them ended.
+    ensures executed { (line : LineOf) → asked words.now ≡ Some line → line.command ≡ Command.Exec → result ≡ RunStatus.Calm Status.Done
+        → Went (HasResults line) (I.remaining source.old) (I.remaining source.new) (K.contents sink.old) (K.contents sink.new) }
+    // What `exec` wrote is what is due: of a text one of the table `Says`, each with its cause, in the order of the tests; whole,
+    // or, where a write failed, a front of it; or, for want of memory, nothing.
+    ensures wrote { (line : LineOf) → asked words.now ≡ Some line → line.command ≡ Command.Exec
+        → Wrote (Due line (I.remaining source.old) (I.remaining source.new)) (K.contents sink.old) (K.contents sink.new) result }
+    // Its source is too long exactly where it gave more than 1,048,576 bytes.
+    ensures counted { (line : LineOf) → asked words.now ≡ Some line → line.command ≡ Command.Exec
+        → TellsLength result (I.remaining source.old) (I.remaining source.new) }
+    ensures read_fault { result ≡ RunStatus.Calm Status.ReadFault → Rose (I.faults source.old) (I.faults source.new) }
+    ensures write_fault { result ≡ RunStatus.Calm Status.WriteFault → Rose (K.faults sink.old) (K.faults sink.new) }
+    ensures unwritten { result ≡ RunStatus.Calm Status.Memory → sink.new ≡ sink.old }
+    // All other words are served as `calm_main` serves them.
+    ensures calm { RunsNothing (asked words.now) → IsCalm (asked words.now) (I.remaining source.old) (I.remaining source.new)
+        (K.contents sink.old) (K.contents sink.new) (I.faults source.old) (I.faults source.new) (K.faults sink.old) (K.faults sink.new)
+        (source.new ≡ source.old) (sink.new ≡ sink.old) result }
+    ensures read_count { I.faults source.old ≤ I.faults source.new }
+    ensures write_count { K.faults sink.old ≤ K.faults sink.new }
+{
+    match exec_line(words) {
+        Some(line) => exec_main::<S, I, K>(alloc, line, source, sink),
+        None => RunStatus::Calm(calm_main(alloc, words, source, sink)),
+    }
+}
