@@ -59,6 +59,12 @@ frame_step T f g s t most le h = record {
       (one_step T b d (stack.Run (with_top fs f)) (stack.Run (with_top fs g)) s t c (omega arith) (no_limit (frame_of T f) (frame_of T g) (callers_of T fs.below.items [])) (h fs));
 }
 
+-- of more that may be made
+pub frame_wide : (T : List Proc) (f g : Frame) (s t : Kept) (most few made : ℕ) → few ≤ most → FrameRan T f s g t few made → FrameRan T f s g t most made
+frame_wide T f g s t most few made le x =
+    let n = x.few in
+    record { few = omega arith; ran = λ b d c fs lt. x.ran b d c fs (omega arith) }
+
 -- the step of an instruction
 pub frame_made : (T : List Proc) (f g : Frame) (s t : Kept) (most : ℕ) (i : Instr) (next : ℕ) → 1 ≤ most → IsAt T f i next → ((fs : Frames) → Made T fs i next f s g t) → FrameRan T f s g t most 1
 frame_made T f g s t most i next le h m = frame_step T f g s t most le (λ fs.
@@ -77,30 +83,12 @@ frame_placed T f os n code s most e h =
     let k : items_at 1 (code_at T f.proc) os n ≡ items_at 1 (code_at T f.proc) f.outer f.at = subst (λ c. items_at 1 c os n ≡ items_at 1 c f.outer f.at) e h in
     frame_same T f (record { proc = f.proc; outer = os; at = n; regs = f.regs }) s s most (ap (λ l. record { proc = proc_at T f.proc; items = l; regs = f.regs }) k) (goes_on s)
 
--- the next instruction of a list, after steps of it
-pub list_more : (T : List Proc) (f g h : Frame) (s m t : Kept) (most made next : ℕ) (list : List Instr) (i : Instr) → made < most → list ≡ list_at (code_at T g.proc) g.outer → slice_get list g.at ≡ Some i → next ≡ suc g.at → FrameRan T f s g m most made → ((procs : List Proc) (fs : Frames) → Makes true procs fs i next g m h t) → FrameRan T f s h t most (made + 1)
-list_more T f g h s m t most made next list i lt is there n ran step =
-    frame_then T f g h s m t most made 1 1 (omega arith) ran
-    (frame_made T g h m t 1 i next (omega arith) (record { there = ap (λ l. slice_get l g.at) (sym is) ∙ there; is = n }) (λ fs. step T fs))
-
--- an instruction that was not made
-pub list_none : (T : List Proc) (f g h : Frame) (s m t : Kept) (most made : ℕ) → FrameRan T f s g m most made → Rests false g m h t → FrameRan T f s h t most made
-list_none T f g h s m t most made ran x =
-    let few = ran.few in
-    let e : made + 0 ≡ made = omega arith in
-    subst (λ n. FrameRan T f s h t most n) e
-    (frame_then T f g h s m t most made (most - made) 0 (omega arith) ran (frame_same T g h m t (most - made) (ap (frame_of T) x.0) x.1))
-
--- the step of an instruction at a settled place
-pub on_made : (T : List Proc) (f g : Frame) (os : List Outer) (n next : ℕ) (code : List Instr) (s t : Kept) (i : Instr) → code ≡ code_at T f.proc → items_at 1 code os n ≡ items_at 1 code f.outer f.at → slice_get (list_at code os) n ≡ Some i → next ≡ suc n → ((procs : List Proc) (fs : Frames) → Makes true procs fs i next (record { proc = f.proc; outer = os; at = n; regs = f.regs }) s g t) → FrameRan T f s g t 1 1
-on_made T f g os n next code s t i e h there is step =
-    let m : Frame = record { proc = f.proc; outer = os; at = n; regs = f.regs } in
-    frame_then T f m g s s t 1 0 1 1 (omega arith) (frame_placed T f os n code s 1 e h)
-    (frame_made T m g s t 1 i next (omega arith) (record { there = subst (λ c. slice_get (list_at c os) n ≡ Some i) e there; is = is }) (λ fs. step T fs))
-
--- an instruction at a settled place that was not made
-pub on_rests : (T : List Proc) (f g : Frame) (os : List Outer) (n : ℕ) (code : List Instr) (s t : Kept) → code ≡ code_at T f.proc → items_at 1 code os n ≡ items_at 1 code f.outer f.at → Rests false (record { proc = f.proc; outer = os; at = n; regs = f.regs }) s g t → FrameRan T f s g t 1 0
-on_rests T f g os n code s t e h x = list_none T f (record { proc = f.proc; outer = os; at = n; regs = f.regs }) g s s t 1 0 (frame_placed T f os n code s 1 e h) x
+-- the steps of what stands at a settled place
+pub on_done : (T : List Proc) (f g : Frame) (os : List Outer) (n most made : ℕ) (code : List Instr) (s t : Kept) → code ≡ code_at T f.proc → items_at 1 code os n ≡ items_at 1 code f.outer f.at → FrameRan T (record { proc = f.proc; outer = os; at = n; regs = f.regs }) s g t most made → FrameRan T f s g t most made
+on_done T f g os n most made code s t e h x =
+    let z : 0 + made ≡ made = omega arith in
+    subst (λ k. FrameRan T f s g t most k) z
+    (frame_then T f (record { proc = f.proc; outer = os; at = n; regs = f.regs }) g s s t most 0 most made (omega arith) (frame_placed T f os n code s most e h) x)
 
 -- the test of a loop at a settled place
 pub on_tested : (T : List Proc) (f g : Frame) (os : List Outer) (n test next : ℕ) (code : List Instr) (s : Kept) → code ≡ code_at T f.proc → items_at 1 code os n ≡ items_at 1 code f.outer f.at → AtTest code test next os n → ((procs : List Proc) (cs : List leaf.Caller) → AtTest (code_at procs f.proc) test next os n → leaf.act procs (leaf.Run (frame_of procs (record { proc = f.proc; outer = os; at = n; regs = f.regs })) cs) ≡ leaf.Go (leaf.Run (frame_of procs g) cs)) → FrameRan T f s g s 1 1

@@ -5,6 +5,7 @@ pub mod Made
 pub mod Legged
 pub mod Stopping
 pub mod FrameRuns
+pub mod Inside
 pub mod Forks
 pub mod Lefts
 pub mod StopsLeft

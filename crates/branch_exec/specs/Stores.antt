@@ -151,12 +151,12 @@ pub record HandsOut (s t a b : Kept) (l r : Starting) : Type 0 where
   pub place : t.place ≡ s.place
   pub weight : t.weight + a.weight + b.weight ≡ s.weight
 
--- a store takes another one back
+-- a store s took another one back, and is t then, but for what the top holds
 pub record TakesBack (s t a : Kept) : Type 0 where
   pub below : t.below ≡ s.below
-  pub top : t.top ≡ plus s.top a.top
   pub drawn : t.drawn ≡ s.drawn ++ a.drawn
   pub walked : s.walked ≤ t.walked
+  pub reached : a.walked ≤ t.walked
   pub cap : t.cap ≡ s.cap
   pub place : t.place ≡ s.place
   pub weight : t.weight ≡ s.weight + a.weight

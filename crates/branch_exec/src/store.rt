@@ -67,9 +67,10 @@ pub trait Store {
         ensures answer { result ≡ frees (kept self.old).top block }
         ensures after { kept self.new ≡ with_top (kept self.old) (after_free result (kept self.old).top block) };
 
-    /// A word of the top piece. It takes no memory.
-    fn read(&self, block: u64, index: u64) -> Seen
-        ensures { result ≡ sees (kept self.now).top block index };
+    /// A word of the top piece, which nothing changes. It takes no memory.
+    fn read(&mut self, block: u64, index: u64) -> Seen
+        ensures answer { result ≡ sees (kept self.old).top block index }
+        ensures after { kept self.new ≡ kept self.old };
 
     /// Changes a word of which the top piece has the whole. It takes no memory.
     fn write(&mut self, block: u64, index: u64, value: u64) -> Written
@@ -108,7 +109,8 @@ pub trait Store {
 
 /// A store from which others can be handed out to threads, and taken back.
 pub trait Shared: Store + Sized {
-    ghost use Rattle.std.specs.Prelude.{◌≡◌, ◌≤◌, IfOk, OnErr};
+    ghost use Rattle.std.specs.Prelude.{◌≡◌, ◌≤◌, IfOk, OnErr, OnOk};
+    ghost use Rattle.target_meaning.specs.Piece.{plus};
     ghost use Rattle.branch_exec.specs.Stores.{CanGive, HandsOut, TakesBack};
 
     /// Stores for both branches of a fork, each with what that branch gets. It takes its memory first.
@@ -119,9 +121,10 @@ pub trait Shared: Store + Sized {
         ensures ok { IfOk result (λ r. HandsOut (Self.kept self.old) (Self.kept self.new) (Self.kept r.0)
             (Self.kept r.1) left.now right.now) };
 
-    /// A store comes back: the top then holds what both held, and the other's list of blocks follows the own one. It takes
-    /// no memory.
-    fn take_back(&mut self, other: Self)
+    /// A store comes back, whatever the memory: the other's list of blocks follows the own one, and the number walked is as
+    /// great as both. The top then holds what both held; after an error it is not said what it holds.
+    fn take_back(&mut self, other: Self) -> Result<(), AllocError>
         requires { (Self.kept other).place ≡ (Self.kept self.old).place }
-        ensures { TakesBack (Self.kept self.old) (Self.kept self.new) (Self.kept other) };
+        ensures back { TakesBack (Self.kept self.old) (Self.kept self.new) (Self.kept other) }
+        ensures top { OnOk result ((Self.kept self.new).top ≡ plus (Self.kept self.old).top (Self.kept other).top) };
 }

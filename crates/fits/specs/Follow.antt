@@ -309,7 +309,23 @@ abbrev pub met_state : State → State → State → State
 met_state u s1 s2 =
     record { toks = λ x. both_tokens (s1.toks x) (s2.toks x); entries = u.entries; hold = s1.hold; next = max s1.next s2.next; facts = u.facts; defs = u.defs; branch = s2.branch }
 
--- the registers in the lines `if` and `while` of binds, and of what follows them
+-- the lines behind those of binds
+abbrev pub past_lines : Binds → List Line → List Line
+past_lines t.No_bind ls = ls
+past_lines (t.Calc_to p to w x y rest) ls = past_lines rest (drop 1 ls)
+past_lines (t.Apply_to p to op made us rest) ls = past_lines rest (drop 1 ls)
+past_lines (t.Assert p inner x rest) ls = past_lines rest ls
+past_lines (t.If p to x l le r re rest) ls = past_lines rest (past_lines r (past_lines l (drop 1 ls)))
+past_lines (t.While p to xs us cs x b be rest) ls = past_lines rest (past_lines b (past_lines cs (drop 1 ls)))
+past_lines (t.Par p to l le r re rest) ls = past_lines rest (past_lines r (past_lines l (drop 1 ls)))
+past_lines (t.Split p to list at i l le j r re rest) ls = past_lines rest (past_lines r (past_lines l (drop 1 ls)))
+past_lines (t.Either p to l le r re rest) (Left_line ∷ ls) = past_lines rest (past_lines l ls)
+past_lines (t.Either p to l le r re rest) (Right_line ∷ ls) = past_lines rest (past_lines r ls)
+past_lines (t.Either p to l le r re rest) ls = []
+past_lines (t.Any p to x y rest) ls = past_lines rest (drop 1 ls)
+past_lines (t.Call p to g us rest) ls = past_lines rest (drop 1 ls)
+
+-- the registers in the lines `if` and `while` of binds, and of what follows them; a branch has registers of its own
 abbrev pub line_regs : Binds → List Line → (List Line → List ℕ) → List ℕ
 line_regs t.No_bind ls k = k ls
 line_regs (t.Calc_to p to w x y rest) ls k = line_regs rest (drop 1 ls) k
@@ -319,8 +335,8 @@ line_regs (t.If p to x l le r re rest) (If_line rs ∷ ls) k = rs ++ line_regs l
 line_regs (t.If p to x l le r re rest) ls k = []
 line_regs (t.While p to xs us cs x b be rest) (While_line rs ∷ ls) k = rs ++ line_regs cs ls (λ ls. line_regs b ls (λ ls. line_regs rest ls k))
 line_regs (t.While p to xs us cs x b be rest) ls k = []
-line_regs (t.Par p to l le r re rest) ls k = line_regs rest (drop 1 ls) k
-line_regs (t.Split p to list at i l le j r re rest) ls k = line_regs rest (drop 1 ls) k
+line_regs (t.Par p to l le r re rest) ls k = line_regs rest (past_lines r (past_lines l (drop 1 ls))) k
+line_regs (t.Split p to list at i l le j r re rest) ls k = line_regs rest (past_lines r (past_lines l (drop 1 ls))) k
 line_regs (t.Either p to l le r re rest) (Left_line ∷ ls) k = line_regs l ls (λ ls. line_regs rest ls k)
 line_regs (t.Either p to l le r re rest) (Right_line ∷ ls) k = line_regs r ls (λ ls. line_regs rest ls k)
 line_regs (t.Either p to l le r re rest) ls k = []

@@ -1,7 +1,7 @@
 //! The calls of a store.
 
 ghost use Rattle.std.specs.Prelude.{◌≡◌, ◌<◌, ◌≤◌, ◌+◌, ◌^◌, IfOk, length, suc, true, false};
-ghost use Rattle.branch_exec.specs.Stores.{IsWon, is_whole, words_whole};
+ghost use Rattle.branch_exec.specs.Stores.{IsWon, is_whole, sees, words_whole};
 ghost use Rattle.target_meaning.specs.Held.{stored, without};
 ghost use Rattle.target_meaning.specs.Piece.{share_of};
 ghost use Rattle.plain_store.specs.Cells.{IsPlaced, top_of};
@@ -82,6 +82,24 @@ fn put_in(cells: &mut Vec<Cell>, border: u64, block: u64, index: u64, value: u64
     put(cells.as_mut_slice(), border, block, index, value);
 }
 
+// A word of the running branch.
+fn look(store: &PlainStore, block: u64, index: u64) -> Seen
+    ensures { result ≡ sees (kept_of store.now).top block index }
+{
+    let name = find(store.cells.as_slice(), store.border, block, 0);
+    if name.amount > 0 && name.value <= index {
+        return Seen::Outside;
+    }
+    let Some(place) = index.checked_add(1) else {
+        return Seen::Unowned;
+    };
+    let word = find(store.cells.as_slice(), store.border, block, place);
+    if word.amount > 0 {
+        return Seen::Word(word.value);
+    }
+    Seen::Unowned
+}
+
 impl Store for PlainStore {
     ghost kept = { λ s. kept_of s };
 
@@ -111,19 +129,8 @@ impl Store for PlainStore {
         Freed::Unowned
     }
 
-    fn read(&self, block: u64, index: u64) -> Seen {
-        let name = find(self.cells.as_slice(), self.border, block, 0);
-        if name.amount > 0 && name.value <= index {
-            return Seen::Outside;
-        }
-        let Some(place) = index.checked_add(1) else {
-            return Seen::Unowned;
-        };
-        let word = find(self.cells.as_slice(), self.border, block, place);
-        if word.amount > 0 {
-            return Seen::Word(word.value);
-        }
-        Seen::Unowned
+    fn read(&mut self, block: u64, index: u64) -> Seen {
+        look(self, block, index)
     }
 
     fn write(&mut self, block: u64, index: u64, value: u64) -> Written {
@@ -182,6 +189,10 @@ impl RunStore for PlainStore {
             return Some(name.value);
         }
         None
+    }
+
+    fn word(&self, block: u64, index: u64) -> Seen {
+        look(self, block, index)
     }
 
     fn claimed(&self) -> u64 {

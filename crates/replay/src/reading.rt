@@ -6,6 +6,7 @@ ghost use Rattle.replay.specs.declared.schedule.NoSchedule.TheVariants as NoSche
 ghost use Rattle.replay.specs.Reading as spec;
 ghost use Rattle.replay.specs.Schedules as texts;
 ghost use Rattle.replay.specs.Schedules.{HasWord, IsNoMove, RefusedAt};
+ghost use Rattle.std.specs.List.{AllByRecursion};
 ghost use Rattle.target_lines.specs.Reading as lines;
 
 use crate::schedule::{Move, NoSchedule, push_move};
@@ -120,6 +121,7 @@ fn add(steps: &mut Vec<Move>, step: Move) -> Result<(), NoSchedule>
 pub fn read_schedule(alloc: Global, bytes: &[u8], first_line: u64) -> Result<Vec<Move>, NoSchedule>
     requires { first_line + length bytes.now < 2 ^ 64 }
     ensures ok { IfOk result (λ steps. (bytes.now ≡ texts.schedule_text steps.items) × (length steps.items ≤ texts.most_lines)) }
+    ensures words { IfOk result (λ steps. AllByRecursion HasWord steps.items) }
     ensures line { (k : ℕ) → result ≡ Err (NoSchedule.Line k) → RefusedAt bytes.now first_line k }
 {
     let mut steps = Vec::new(alloc);

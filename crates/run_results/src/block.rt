@@ -3,7 +3,7 @@
 ghost use Rattle.std.specs.Prelude.{IfOk};
 ghost use Rattle.run_results.specs.Results.{IsBlock};
 
-use branch_exec::store::{Seen, Store};
+use branch_exec::store::Seen;
 use run_stores::RunStore;
 use sqlite_items::Items;
 use std::alloc::{AllocError, Global};
@@ -21,7 +21,7 @@ pub(crate) fn held_words<S: RunStore>(
     };
     let mut words = Vec::new(alloc);
     for index in 0..len {
-        match store.read(block, index) {
+        match store.word(block, index) {
             Seen::Word(word) => words.push(word)?,
             Seen::Outside | Seen::Unowned => return Ok(None),
         }

@@ -24,6 +24,13 @@ use Rattle.run_inputs.specs.Placing.{AllFit}
 use Rattle.execution_input.specs.Executions.{IsExecution, NoValuesAt, front_of, rest_of, values_line}
 use Rattle.execution_input.proofs.Held.{given_held}
 use Rattle.program_run.specs.Ends.{RunMeans}
+use Rattle.replay.specs.declared.answer.ReplayEnd.{ReplayEnd}
+use Rattle.replay.specs.declared.answer.ReplayEnd.TheVariants as end
+use Rattle.replay_causes.specs.Causes.{HasCause, OneCause, bare}
+use Rattle.replay_causes.specs.declared.cause.Cause.{Cause}
+use Rattle.replay_causes.specs.declared.cause.Cause.TheVariants as cause
+use Rattle.sepref_replay.specs.Lines.{text_of}
+use Rattle.sepref_top.proofs.Told.{all_given, gave_at_most}
 use Rattle.sepref_top.specs.CommandWords.{command_of_word, line_of_words, plain, plain_of}
 use Rattle.sepref_top.specs.Outcome.{longest}
 use Rattle.sepref_top.specs.declared.status.Status.{Status}
@@ -31,8 +38,9 @@ use Rattle.sepref_top.specs.declared.status.Status.TheVariants as calm
 use Rattle.sepref_top.specs.declared.words.Command.{Command}
 use Rattle.sepref_top.specs.declared.words.Command.TheVariants as command
 use Rattle.sepref_top.specs.declared.words.Line.{Line}
-use Rattle.sepref_runs.specs.Calm.{IsExec, IsExecLine, RunsNothing, is_exec}
-use Rattle.sepref_runs.specs.Runs.{Due, Given, HasResults, Ran, Says, TellsLength, UnlessLost, Went, Wrote, status_of}
+use Rattle.sepref_runs.specs.Calm.{IsRun, IsRunLine, RunsNothing, runs}
+use Rattle.sepref_runs.specs.Replays.{HasFailed, IsAnswered, IsTold, Replayed, status_of_answer, status_of_cause}
+use Rattle.sepref_runs.specs.Runs.{Due, Given, HasResults, Ran, Says, SaysAs, TellsLength, UnlessLost, Went, Wrote, status_of}
 use Rattle.sepref_runs.specs.Texts.{TellsInput, TellsUnrun, bytes_of, told_status}
 use Rattle.sepref_runs.specs.declared.telling.Telling.{Telling}
 use Rattle.sepref_runs.specs.declared.status.RunStatus.{RunStatus}
@@ -60,6 +68,24 @@ of_end (run.OutOfSteps path) = tt
 of_end (run.HeapFull at len) = tt
 of_end (run.Depth path) = tt
 
+of_answer : (e : ReplayEnd) → IsDue (status_of_answer e)
+of_answer (end.Race after q r) = tt
+of_answer (end.Stuck after path proc line why) = tt
+of_answer (end.Full at) = tt
+of_answer (end.End at) = tt
+of_answer (end.Open steps) = tt
+of_answer (end.BadStep at used) = tt
+of_answer (end.Depth path) = tt
+
+of_cause : (c : Cause) → IsDue (status_of_cause c)
+of_cause (cause.NotProgram k) = tt
+of_cause (cause.Syntax q) = tt
+of_cause (cause.NoSchedule k) = tt
+of_cause (cause.Input x f) = tt
+of_cause (cause.HeapFull at len) = tt
+of_cause (cause.NoValue k) = tt
+of_cause (cause.Told e vs) = of_answer e
+
 module _ (l : Line) where
   given_due : {s : RunStatus} {output : List ℕ} {T : Program} {ws : List With} → Given l T ws s output → IsDue s
   given_due (Given.on_values us g r) = subst IsDue (sym r.status_is) (of_end r.end)
@@ -70,8 +96,16 @@ module _ (l : Line) where
   says_due (Says.no_lines q r w) = tt
   says_due (Says.execution T ws e g) = given_due g
 
+  as_due : (c : Command) (text : List ℕ) (s : RunStatus) (output : List ℕ) → SaysAs c l text s output → IsDue s
+  as_due command.Exec text s output a = says_due a
+  as_due command.Replay text s output a = subst IsDue (sym a.status_is) (of_cause a.cause_is)
+  as_due command.Check text s output a = absurd a
+  as_due command.Synth text s output a = absurd a
+  as_due command.Eval text s output a = absurd a
+  as_due command.Run text s output a = absurd a
+
   pub is_due : {old new : Option (List ℕ)} {s : RunStatus} {output : List ℕ} → Due l old new s output → IsDue s
-  is_due (Due.of_text text c e s) = says_due s
+  is_due {s = s} {output = output} (Due.of_text text c e a) = as_due l.command text s output a
   is_due (Due.too_long w) = tt
   is_due (Due.read_fault w) = tt
 
@@ -138,15 +172,34 @@ module _ (l : Line) where
   of_says (Says.no_lines p r w) e = absurd (let q = same_calm (calm.Syntax p) calm.Done e in let z : ⊥ = cc q in z)
   of_says {text = text} (Says.execution T ws i g) e = of_given text T ws i g e
 
-  of_due : {old new : Option (List ℕ)} (before after : Option (List ℕ)) {s : RunStatus} {output : List ℕ} → Due l old new s output → s ≡ status.Calm calm.Done → Appends before after output → Went (HasResults l) old new before after
-  of_due before after {output = output} (Due.of_text text c n s) e a = (text, output, c, n, a, of_says s e)
-  of_due before after (Due.too_long w) e a = absurd (let q = same_calm calm.TooLong calm.Done e in let z : ⊥ = cc q in z)
-  of_due before after (Due.read_fault w) e a = absurd (let q = same_calm calm.ReadFault calm.Done e in let z : ⊥ = cc q in z)
+  with_answer : (text output : List ℕ) (c : Cause) → HasCause text l.heap c → status_of_cause c ≡ status.Calm calm.Done → output ≡ text_of c → IsAnswered l.heap text output
+  with_answer text output (cause.NotProgram k) h e w = absurd (let q = same_calm (calm.NotProgram k) calm.Done e in let z : ⊥ = cc q in z)
+  with_answer text output (cause.Syntax p) h e w = absurd (let q = same_calm (calm.Syntax p) calm.Done e in let z : ⊥ = cc q in z)
+  with_answer text output (cause.NoSchedule k) h e w = absurd (let z : ⊥ = cc e in z)
+  with_answer text output (cause.Input x f) h e w = absurd (let q = same_calm calm.Input calm.Done e in let z : ⊥ = cc q in z)
+  with_answer text output (cause.HeapFull at len) h e w = absurd (let z : ⊥ = cc e in z)
+  with_answer text output (cause.NoValue k) h e w = absurd (let z : ⊥ = cc e in z)
+  with_answer text output (cause.Told d vs) h e w = record { end_is = d; values = vs; answer = h; done = e; written = w }
 
-  pub done : {old new before after : Option (List ℕ)} {r : RunStatus} → Wrote (Due l old new) before after r → r ≡ status.Calm calm.Done → Went (HasResults l) old new before after
-  done {before = before} {after = after} (Wrote.whole output d a) e = of_due before after d e a
-  done (Wrote.lost output n d a) e = absurd (let q = same_calm calm.WriteFault calm.Done e in let z : ⊥ = cc q in z)
-  done (Wrote.nothing k) e = absurd (let q = same_calm calm.Memory calm.Done e in let z : ⊥ = cc q in z)
+  -- what holds of what a command says at status 0 holds of what went out
+  module _ (holds : List ℕ → List ℕ → Type 0) (says : (text : List ℕ) (s : RunStatus) (output : List ℕ) → SaysAs l.command l text s output → s ≡ status.Calm calm.Done → holds text output) where
+    of_due : {old new : Option (List ℕ)} (before after : Option (List ℕ)) {s : RunStatus} {output : List ℕ} → Due l old new s output → s ≡ status.Calm calm.Done → Appends before after output → Went holds old new before after
+    of_due before after {s = s} {output = output} (Due.of_text text c n said) e a = (text, output, c, n, a, says text s output said e)
+    of_due before after (Due.too_long w) e a = absurd (let q = same_calm calm.TooLong calm.Done e in let z : ⊥ = cc q in z)
+    of_due before after (Due.read_fault w) e a = absurd (let q = same_calm calm.ReadFault calm.Done e in let z : ⊥ = cc q in z)
+
+    done_by : {old new before after : Option (List ℕ)} {r : RunStatus} → Wrote (Due l old new) before after r → r ≡ status.Calm calm.Done → Went holds old new before after
+    done_by {before = before} {after = after} (Wrote.whole output d a) e = of_due before after d e a
+    done_by (Wrote.lost output n d a) e = absurd (let q = same_calm calm.WriteFault calm.Done e in let z : ⊥ = cc q in z)
+    done_by (Wrote.nothing k) e = absurd (let q = same_calm calm.Memory calm.Done e in let z : ⊥ = cc q in z)
+
+  pub done : {old new before after : Option (List ℕ)} {r : RunStatus} → l.command ≡ command.Exec → Wrote (Due l old new) before after r → r ≡ status.Calm calm.Done → Went (HasResults l) old new before after
+  done k = done_by (HasResults l) (λ text s output a e. of_says (subst (λ c. SaysAs c l text s output) k a) e)
+
+  pub answered : {old new before after : Option (List ℕ)} {r : RunStatus} → l.command ≡ command.Replay → Wrote (Due l old new) before after r → r ≡ status.Calm calm.Done → Went (IsAnswered l.heap) old new before after
+  answered k = done_by (IsAnswered l.heap) (λ text s output a e.
+      let h : Replayed l.heap text s output = subst (λ c. SaysAs c l text s output) k a in
+      with_answer text output h.cause_is h.has (sym h.status_is ∙ e) h.written)
 
 -- ---- words
 
@@ -163,24 +216,23 @@ few_steps [] l e = absurd (let z : ⊥ = cc e in z)
 few_steps (w ∷ []) l e = of_command (command_of_word w) l e
 few_steps (w ∷ v ∷ ws) l e = absurd (let z : ⊥ = cc e in z)
 
-pub not_exec : (l : Line) → is_exec l.command ≡ false → RunsNothing (Some l)
-not_exec l e k q c =
-    let same : l ≡ k = same_some l k q in
-    let f : is_exec l.command ≡ true = ap (λ (x : Line). is_exec x.command) same ∙ ap is_exec c in
-    let z : true ≡ false = sym f ∙ e in
-    let y : ⊥ = cc z in y
+pub not_run : (l : Line) → runs l.command ≡ false → RunsNothing (Some l)
+not_run l e k q = let same : l ≡ k = same_some l k q in ap (λ (x : Line). runs x.command) (sym same) ∙ e
 
-pub is_exec_true : (c : Command) → is_exec c ≡ true → c ≡ command.Exec
-is_exec_true command.Check e = absurd (let z : ⊥ = cc e in z)
-is_exec_true command.Synth e = absurd (let z : ⊥ = cc e in z)
-is_exec_true command.Eval e = absurd (let z : ⊥ = cc e in z)
-is_exec_true command.Run e = absurd (let z : ⊥ = cc e in z)
-is_exec_true command.Exec e = refl
+pub of_other : (o : Option Line) (l : Line) → IsRun o l → RunsNothing o → ⊥
+of_other o l x n = let z : true ≡ false = sym x.command ∙ n l x.line in let y : ⊥ = cc z in y
 
-pub of_other : (o : Option Line) (l : Line) → IsExec o l → RunsNothing o → ⊥
-of_other o l x n = n l x.line x.command
+-- the words ask for none of these commands, and for one
+pub of_none : (o : Option Line) (l : Line) → RunsNothing o → o ≡ Some l → runs l.command ≡ true → ⊥
+of_none o l n e r = let z : true ≡ false = sym r ∙ n l e in let y : ⊥ = cc z in y
 
-pub same_line : (o : Option Line) (l k : Line) → IsExec o l → o ≡ Some k → l ≡ k
+pub of_exec : (l : Line) → l.command ≡ command.Exec → runs l.command ≡ true
+of_exec l e = ap runs e
+
+pub of_replay : (l : Line) → l.command ≡ command.Replay → runs l.command ≡ true
+of_replay l e = ap runs e
+
+pub same_line : (o : Option Line) (l k : Line) → IsRun o l → o ≡ Some k → l ≡ k
 same_line o l k x e = same_some l k (sym x.line ∙ e)
 
 -- ---- texts
@@ -209,7 +261,7 @@ of_given_told l text T ws i (Ok t) h = Says.execution T ws i h
 of_given_told l text T ws i (Err x) h = tt
 
 pub of_text_told : {E : Type 0} (l : Line) (old new : Option (List ℕ)) (text : List ℕ) → Consumes old new text → IsAtEnd new → (r : Result Telling E)
-    → IfOk r (λ t. Says l text t.status (bytes_of t.text)) → IfOk r (λ t. Due l old new t.status (bytes_of t.text))
+    → IfOk r (λ t. SaysAs l.command l text t.status (bytes_of t.text)) → IfOk r (λ t. Due l old new t.status (bytes_of t.text))
 of_text_told l old new text c e (Ok t) h = Due.of_text text c e h
 of_text_told l old new text c e (Err x) h = tt
 
@@ -253,8 +305,34 @@ says_said (Says.no_program k r w) = tt
 says_said (Says.no_lines q r w) = tt
 says_said (Says.execution T ws e g) = given_said g
 
-pub told_said : (l : Line) (text : List ℕ) (r : Result Telling AllocError) → IfOk r (λ t. Says l text t.status (bytes_of t.text)) → IsSaid (told_status r)
-told_said l text (Ok t) h = says_said h
+answer_said : (e : ReplayEnd) → IsSaid (status_of_answer e)
+answer_said (end.Race after q r) = tt
+answer_said (end.Stuck after path proc line why) = tt
+answer_said (end.Full at) = tt
+answer_said (end.End at) = tt
+answer_said (end.Open steps) = tt
+answer_said (end.BadStep at used) = tt
+answer_said (end.Depth path) = tt
+
+cause_said : (c : Cause) → IsSaid (status_of_cause c)
+cause_said (cause.NotProgram k) = tt
+cause_said (cause.Syntax q) = tt
+cause_said (cause.NoSchedule k) = tt
+cause_said (cause.Input x f) = tt
+cause_said (cause.HeapFull at len) = tt
+cause_said (cause.NoValue k) = tt
+cause_said (cause.Told e vs) = answer_said e
+
+as_said : (c : Command) (l : Line) (text : List ℕ) (s : RunStatus) (output : List ℕ) → SaysAs c l text s output → IsSaid s
+as_said command.Exec l text s output a = says_said a
+as_said command.Replay l text s output a = subst IsSaid (sym a.status_is) (cause_said a.cause_is)
+as_said command.Check l text s output a = absurd a
+as_said command.Synth l text s output a = absurd a
+as_said command.Eval l text s output a = absurd a
+as_said command.Run l text s output a = absurd a
+
+pub told_said : (l : Line) (text : List ℕ) (r : Result Telling AllocError) → IfOk r (λ t. SaysAs l.command l text t.status (bytes_of t.text)) → IsSaid (told_status r)
+told_said l text (Ok t) h = as_said l.command l text t.status (bytes_of t.text) h
 told_said l text (Err x) h = tt
 
 pub not_too_long : (x : RunStatus) → IsSaid x → x ≡ status.Calm calm.TooLong → ⊥
@@ -262,3 +340,31 @@ not_too_long x h e = subst IsSaid e h
 
 pub not_read_fault : (x : RunStatus) → IsSaid x → x ≡ status.Calm calm.ReadFault → ⊥
 not_read_fault x h e = subst IsSaid e h
+
+-- ---- each input of `replay` is told
+
+bare_status : (c : Cause) → status_of_cause (bare c) ≡ status_of_cause c
+bare_status (cause.NotProgram k) = refl
+bare_status (cause.Syntax q) = refl
+bare_status (cause.NoSchedule k) = refl
+bare_status (cause.Input x f) = refl
+bare_status (cause.HeapFull at len) = refl
+bare_status (cause.NoValue k) = refl
+bare_status (cause.Told e vs) = refl
+
+module _ (one_cause : OneCause) (l : Line) (is : l.command ≡ command.Replay) (old new : Option (List ℕ)) (text : List ℕ) (known : old ≡ Some text) (n : ℕ) (gave : Gave old new n) (short : length text ≤ longest) where
+  told_due : (s : RunStatus) (output : List ℕ) → (s ≡ status.Calm calm.TooLong → longest < n) → Due l old new s output → IsTold l.heap text s
+  told_due s output far (Due.of_text given c e a) d h =
+      let it : given ≡ text = all_given old new text given known c e in
+      let r : Replayed l.heap text s output = subst (λ z. Replayed l.heap z s output) it (subst (λ k. SaysAs k l given s output) is a) in
+      let same = one_cause text l.heap r.cause_is d r.has h in
+      inl (r.status_is ∙ sym (bare_status r.cause_is) ∙ ap status_of_cause same ∙ bare_status d)
+  told_due s output far (Due.too_long w) d h = absurd (let a = far refl in let b = gave_at_most old new n text known gave in let z : ⊥ = omega (arith, a, b, short) in z)
+  told_due s output far (Due.read_fault w) d h = inr tt
+
+  lost_told : (r : RunStatus) → r ≡ lost_write → IsTold l.heap text r
+  lost_told r e d h = subst (λ s. (s ≡ status_of_cause d) ⊎ HasFailed s) (sym e) (inr tt)
+
+  pub told_unless : (s r : RunStatus) (output : List ℕ) → UnlessLost s r → (s ≡ status.Calm calm.TooLong → longest < n) → Due l old new s output → IsTold l.heap text r
+  told_unless s r output (inl e) far d = subst (IsTold l.heap text) (sym e) (told_due s output far d)
+  told_unless s r output (inr e) far d = lost_told r e

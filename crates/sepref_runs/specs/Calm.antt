@@ -1,5 +1,5 @@
 -- What is said where no program is run: all that the call that waits for nobody says.
-use Rattle.std.specs.Prelude.{◌≡◌, ◌≢◌, ℕ, ◌≤◌, Bool, true, false, List, length, Option, Some, None}
+use Rattle.std.specs.Prelude.{◌≡◌, ℕ, ◌≤◌, Bool, true, false, List, length, Option, Some, None}
 use Rattle.sep_io.specs.Faults.{Rose}
 use Rattle.sepref_top.specs.Answers.{Answers, Due, IsCanonical, IsEvaluation, IsSynthesis, ToldBy, Went}
 use Rattle.sepref_top.specs.Outcome.{AnswersUnlessLost, TellsLength, Wrote, longest}
@@ -12,22 +12,24 @@ use Rattle.sepref_top.specs.declared.words.Line.{Line}
 use Rattle.sepref_runs.specs.declared.status.RunStatus.{RunStatus}
 use Rattle.sepref_runs.specs.declared.status.RunStatus.TheVariants as run
 
--- the words are no command line, or one of another command than `exec`
+-- a command runs programs, or follows a schedule of one
+abbrev pub runs : Command → Bool
+runs command.Exec = true
+runs command.Replay = true
+runs _ = false
+
+-- the words are no command line, or one of another command
 abbrev pub RunsNothing : Option Line → Type 0
-RunsNothing o = (l : Line) → o ≡ Some l → l.command ≢ command.Exec
+RunsNothing o = (l : Line) → o ≡ Some l → runs l.command ≡ false
 
-abbrev pub is_exec : Command → Bool
-is_exec command.Exec = true
-is_exec _ = false
-
--- the command line of `exec` that words are; none where they are none of `exec`
-pub record IsExec (o : Option Line) (l : Line) : Type 0 where
+-- the command line of such a command that words are; none where they are none
+pub record IsRun (o : Option Line) (l : Line) : Type 0 where
   pub line : o ≡ Some l
-  pub command : l.command ≡ command.Exec
+  pub command : runs l.command ≡ true
 
-abbrev pub IsExecLine : Option Line → Option Line → Type 0
-IsExecLine None o = RunsNothing o
-IsExecLine (Some l) o = IsExec o l
+abbrev pub IsRunLine : Option Line → Option Line → Type 0
+IsRunLine None o = RunsNothing o
+IsRunLine (Some l) o = IsRun o l
 
 -- of what the words ask for, of what the source had left before and after, of what the sink had, of the counts of faults, and of source and sink that stayed as they were
 pub record IsCalm (o : Option Line) (old new before after : Option (List ℕ)) (reads reads_after writes writes_after : ℕ) (Unread Unwritten : Type 0) (result : RunStatus) : Type 0 where

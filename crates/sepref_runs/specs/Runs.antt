@@ -18,7 +18,10 @@ use Rattle.sepref_top.specs.InputLines.{input_line}
 use Rattle.sepref_top.specs.Outcome.{longest}
 use Rattle.sepref_top.specs.Statuses as statuses
 use Rattle.sepref_top.specs.declared.status.Status.TheVariants as calm
+use Rattle.sepref_top.specs.declared.words.Command.{Command}
+use Rattle.sepref_top.specs.declared.words.Command.TheVariants as command
 use Rattle.sepref_top.specs.declared.words.Line.{Line}
+use Rattle.sepref_runs.specs.Replays.{Replayed}
 use Rattle.sepref_runs.specs.declared.status.RunStatus.{RunStatus}
 use Rattle.sepref_runs.specs.declared.status.RunStatus.TheVariants as status
 
@@ -32,6 +35,8 @@ code_of status.HeapFull = 8
 code_of status.Unowned = 10
 code_of status.NoValue = 12
 code_of status.Depth = 13
+code_of status.NoSchedule = 17
+code_of status.BadStep = 18
 
 abbrev pub status_of : RunEnd → RunStatus
 status_of (run.Values vs) = status.Calm calm.Done
@@ -62,11 +67,17 @@ pub data Says (l : Line) (text : List ℕ) : RunStatus → List ℕ → Type 0 w
   no_lines : {output : List ℕ} (q : Place) → NoValuesAt text q → output ≡ statuses.line_of (calm.Syntax q) → Says l text (status.Calm (calm.Syntax q)) output
   execution : {s : RunStatus} {output : List ℕ} (T : Program) (ws : List With) → IsExecution text T ws → Given l T ws s output → Says l text s output
 
+-- a command that runs or follows programs says this of a text
+abbrev pub SaysAs : Command → Line → List ℕ → RunStatus → List ℕ → Type 0
+SaysAs command.Exec l text s output = Says l text s output
+SaysAs command.Replay l text s output = Replayed l.heap text s output
+SaysAs _ l text s output = ⊥
+
 -- ---- what is due, and what went out
 
 -- what is due to a command line, by what the source gave
 pub data Due (l : Line) (old new : Option (List ℕ)) : RunStatus → List ℕ → Type 0 where
-  of_text : {s : RunStatus} {output : List ℕ} (text : List ℕ) → Consumes old new text → IsAtEnd new → Says l text s output → Due l old new s output
+  of_text : {s : RunStatus} {output : List ℕ} (text : List ℕ) → Consumes old new text → IsAtEnd new → SaysAs l.command l text s output → Due l old new s output
   too_long : {output : List ℕ} → output ≡ statuses.line_of calm.TooLong → Due l old new (status.Calm calm.TooLong) output
   read_fault : {output : List ℕ} → output ≡ statuses.line_of calm.ReadFault → Due l old new (status.Calm calm.ReadFault) output
 

@@ -1,9 +1,12 @@
 //! How a run of the program ended, where programs are run too.
 
 ghost use Rattle.std.specs.Prelude.{◌≡◌};
+ghost use Rattle.sepref_runs.specs.Replays.{status_of_answer, status_of_cause};
 ghost use Rattle.sepref_runs.specs.Runs.{code_of, status_of};
 
 use program_run::RunEnd;
+use replay::ReplayEnd;
+use replay_causes::Cause;
 use sepref_top::Status;
 
 /// How a run of the program ended. Each status but those of results, of a failed write and of want of memory has written
@@ -24,6 +27,10 @@ pub enum RunStatus {
     NoValue,
     /// A call or a fork would pass a limit of depth; the line tells the path.
     Depth,
+    /// A line of the input is none of a schedule, or is the 20,001st; the line tells which.
+    NoSchedule,
+    /// A step of a schedule cannot be made; the line tells which and why.
+    BadStep,
 }
 
 impl RunStatus {
@@ -39,6 +46,8 @@ impl RunStatus {
             RunStatus::Unowned => 10,
             RunStatus::NoValue => 12,
             RunStatus::Depth => 13,
+            RunStatus::NoSchedule => 17,
+            RunStatus::BadStep => 18,
         }
     }
 
@@ -54,6 +63,32 @@ impl RunStatus {
             RunEnd::OutOfSteps { .. } => RunStatus::OutOfSteps,
             RunEnd::HeapFull { .. } => RunStatus::HeapFull,
             RunEnd::Depth { .. } => RunStatus::Depth,
+        }
+    }
+
+    /// The status of an answer along a schedule.
+    pub(crate) fn of_answer(end: &ReplayEnd) -> RunStatus
+        ensures { result ≡ status_of_answer end.now }
+    {
+        match end {
+            ReplayEnd::Depth { .. } => RunStatus::Depth,
+            ReplayEnd::BadStep { .. } => RunStatus::BadStep,
+            _ => RunStatus::Calm(Status::Done),
+        }
+    }
+
+    /// The status of what an input of `replay` is answered.
+    pub(crate) fn of_cause(cause: &Cause) -> RunStatus
+        ensures { result ≡ status_of_cause cause.now }
+    {
+        match cause {
+            Cause::NotProgram(line) => RunStatus::Calm(Status::NotProgram(*line)),
+            Cause::Syntax(place) => RunStatus::Calm(Status::Syntax(*place)),
+            Cause::NoSchedule(_) => RunStatus::NoSchedule,
+            Cause::Input { .. } => RunStatus::Calm(Status::Input),
+            Cause::HeapFull { .. } => RunStatus::HeapFull,
+            Cause::NoValue(_) => RunStatus::NoValue,
+            Cause::Told { end, .. } => RunStatus::of_answer(end),
         }
     }
 }

@@ -126,6 +126,7 @@ told_as command.Synth l text s output a = of_spec command.Synth l text s output 
 told_as command.Eval l text s output a = of_spec command.Eval l text s output a
 told_as command.Run l text s output a = of_spec command.Run l text s output a
 told_as command.Exec l text s output a = of_execution text s output a
+told_as command.Replay l text s output a = inl a.0
 
 pub told : (l : Line) (text : List ℕ) (s : Status) (output : List ℕ) → Answers l text s output → ToldBy l text s
 told l = told_as l.command l
@@ -139,6 +140,7 @@ failed_as command.Synth l text s h = failed command.Synth l text s h
 failed_as command.Eval l text s h = failed command.Eval l text s h
 failed_as command.Run l text s h = failed command.Run l text s h
 failed_as command.Exec l text s h = record { no_program = λ n. inr h; no_values = λ t p n. inr h; other = λ t ws i. inr h }
+failed_as command.Replay l text s h = inr h
 
 pub failed_by : (l : Line) (text : List ℕ) (s : Status) → HasFailed s → ToldBy l text s
 failed_by l = failed_as l.command l

@@ -107,6 +107,7 @@ AnswersExecution text s output = ⊥
 
 abbrev pub AnswersAs : Command → Line → List ℕ → Status → List ℕ → Type 0
 AnswersAs command.Exec l text s output = AnswersExecution text s output
+AnswersAs command.Replay l text s output = (s ≡ status.NotYet) × (output ≡ line_of status.NotYet)
 AnswersAs c l text s output = AnswersSpec c l text s output
 
 -- what a command line says of a text
@@ -135,6 +136,7 @@ pub record ToldExecution (text : List ℕ) (s : Status) : Type 0 where
 
 abbrev pub ToldAs : Command → Line → List ℕ → Status → Type 0
 ToldAs command.Exec l text s = ToldExecution text s
+ToldAs command.Replay l text s = (s ≡ status.NotYet) ⊎ HasFailed s
 ToldAs c l text s = Told c l text s
 
 abbrev pub ToldBy : Line → List ℕ → Status → Type 0

@@ -51,6 +51,7 @@ fn text_answer(alloc: Global, line: Line, text: &[u8]) -> Result<Answer, AllocEr
             spec_answer(alloc, line, text)
         }
         Command::Exec => execution_answer(alloc, text),
+        Command::Replay => Ok(Answer::of_line(Status::NotYet)),
     }
 }
 
@@ -93,7 +94,8 @@ fn write_answer<K: Sink>(sink: &mut K, answer: &Answer) -> Status
 
 /// Does what the words ask for, with the bytes that the source gives, and writes to the sink. It waits for nobody and
 /// returns. Served today are `eval` and `check`, on every specification, and `synth` on the smallest specifications; `run` and
-/// `exec` read their input and answer `NotYet`, `run` where it is a typed specification, `exec` where it is a program with values.
+/// `exec` read their input and answer `NotYet`, `run` where it is a typed specification, `exec` where it is a program with values;
+/// `replay` answers so whatever its input is.
 pub fn calm_main<S: Source, K: Sink>(
     alloc: Global,
     words: &[String],

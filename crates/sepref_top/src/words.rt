@@ -16,6 +16,8 @@ pub enum Command {
     Run,
     /// To run a program.
     Exec,
+    /// To follow a schedule of a program.
+    Replay,
 }
 
 /// A command line: a command, with its number and its options.
@@ -64,6 +66,8 @@ fn command_word(word: &str) -> Option<Command>
         Some(Command::Run)
     } else if word == "exec" {
         Some(Command::Exec)
+    } else if word == "replay" {
+        Some(Command::Replay)
     } else {
         None
     }

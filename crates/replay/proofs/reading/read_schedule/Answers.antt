@@ -9,3 +9,6 @@ pub loop-rest-preserved : goal.loop-rest-preserved
 loop-rest-preserved c =
     let found = rw c.in-Ok-Some.field-0-is at c.in-Ok-Some.ensures.some in
     took_more c.args.bytes.now c.loop-rest.rest.now c.in-Ok-Some.after.now c.loop-rest.steps.items c.add.new.steps.items c.in-Ok-Some.step c.loop-rest.invariant found.0 found.1 (omega arith) c.in_ok-add-in-Ok-Some.ensures.ok
+
+pub returns-clause-words : goal.returns-clause-words
+returns-clause-words c = c.loop-rest.invariant.words

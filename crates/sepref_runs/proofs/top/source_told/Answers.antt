@@ -1,5 +1,5 @@
 use Rattle.std.proofs.Common.{rules, arith, ◌≡◌, ◌<◌, ℕ, List, IfOk, refl, sym, subst}
-use Rattle.sepref_runs.specs.Runs.{Due, Says}
+use Rattle.sepref_runs.specs.Runs.{Due, SaysAs}
 use Rattle.sepref_runs.specs.Texts.{bytes_of, told_status}
 use Rattle.sepref_runs.proofs.Tops.{not_read_fault, not_too_long, of_text_told, told_said}
 use Rattle.sepref_runs.proofs.top.source_told.Goals as goal
@@ -7,7 +7,7 @@ use Rattle.sepref_runs.proofs.top.source_told.Goals as goal
 pub returns-in-Ok-clause-due : goal.returns-in-Ok-clause-due
 returns-in-Ok-clause-due g c =
     of_text_told c.args.line (g.I.Source.remaining c.args.source.now) (g.I.Source.remaining c.read_all.new.source) c.in-Ok.text.items c.in-Ok.ensures.bytes c.in-Ok.ensures.end c.whole_told.result
-    (subst (λ (text : List ℕ). IfOk c.whole_told.result (λ t. Says c.args.line text t.status (bytes_of t.text))) c.as_slice.ensures.value c.whole_told.ensures)
+    (subst (λ (text : List ℕ). IfOk c.whole_told.result (λ t. SaysAs c.args.line.command c.args.line text t.status (bytes_of t.text))) c.as_slice.ensures.value c.whole_told.ensures)
 
 pub returns-in-Ok-clause-gave : goal.returns-in-Ok-clause-gave
 returns-in-Ok-clause-gave g c =

@@ -1,0 +1,4 @@
+pub mod BareLemmas
+pub mod Registers
+pub mod StepsBare
+pub mod Walked

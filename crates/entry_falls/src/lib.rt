@@ -1,0 +1,4 @@
+//! Entries from before are as they were, or went.
+#![tactic(auto)]
+
+pub mod laws;

@@ -1,0 +1,5 @@
+pub mod Leads
+pub mod Numbers
+mod Steps
+mod Branches
+pub mod Follows

@@ -1,0 +1,4 @@
+//! What the following of a derivation keeps of the state where it began.
+#![tactic(auto)]
+
+pub mod laws;

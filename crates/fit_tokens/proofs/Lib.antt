@@ -1,0 +1,4 @@
+pub mod ChangesLemmas
+pub mod LogsLemmas
+pub mod MeetingLemmas
+pub mod StacksLemmas

@@ -1,0 +1,12 @@
+use Rattle.std.proofs.Common.{◌≡◌, ℕ, take, []}
+use Rattle.fits.specs.Follow.{old_token}
+use Rattle.fits.specs.Places.{arg_tokens}
+use Rattle.fit_tokens.specs.Changes.{toks}
+use Rattle.fit_tokens.proofs.table.Tokens.of_old_registers.Given as goal
+
+abbrev pub invariant-each : goal.invariant-each
+invariant-each l = record {
+  tokens : (r : ℕ) → toks l.tokens r ≡ arg_tokens (λ q. old_token l.bound (toks l.self q)) (take l.reg-index l.regs) r;
+  saved : l.tokens.saved ≡ [];
+  place : l.place ≡ l.reg-index;
+}

@@ -1,0 +1,4 @@
+pub mod Changes
+pub mod Logs
+pub mod Stacks
+pub mod Standing

@@ -1,0 +1,3 @@
+pub mod Apart
+mod Only
+pub mod Promise

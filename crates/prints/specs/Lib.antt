@@ -1,0 +1,4 @@
+pub mod Homes
+pub mod Print
+pub mod Programs
+pub mod Samples

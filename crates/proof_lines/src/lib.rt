@@ -1,0 +1,4 @@
+//! The lines of a derivation as those that are followed.
+#![tactic(auto)]
+
+pub mod laws;

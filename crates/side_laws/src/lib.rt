@@ -1,0 +1,4 @@
+//! What sides and loops leave of the entries from before.
+#![tactic(auto)]
+
+pub mod laws;

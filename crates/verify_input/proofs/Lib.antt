@@ -1,0 +1,2 @@
+mod Nones
+mod Parts
