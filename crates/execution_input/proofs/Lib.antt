@@ -1,4 +1,1 @@
 pub mod Cuts
-pub mod Counts
-pub mod Numbers
-pub mod Held

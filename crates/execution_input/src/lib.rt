@@ -1,7 +1,6 @@
 //! What an input of `exec` is: a program, and values for its inputs.
 #![tactic(auto)]
 
-pub mod laws;
 mod reading;
 
 pub use reading::{Unrun, read_execution};

@@ -12,7 +12,7 @@ mod Forks
 mod Found
 mod Halves
 mod Handing
-mod Join
+pub mod Join
 mod Lending
 mod Loop
 pub mod Mains

@@ -1,2 +1,2 @@
 pub mod Named
-mod Numbers
+pub mod Numbers

@@ -1,9 +1,8 @@
 -- All rows of the table.
 use Rattle.std.specs.Prelude.{◌≡◌, ℕ, ◌^◌, ◌<◌, ◌≤◌, nat_eq, nat_lt, nat_le, Bool, true, false, ◌&&◌, cond, List, [], ◌∷◌, length, Option, Some, None}
 use Rattle.std.proofs.Common.{refl, sym, ap, ◌∙◌, subst}
-use Rattle.std.proofs.lemmas.Bool.{and_parts, eqb-true, leb-true, ltb-true}
+use Rattle.std.proofs.lemmas.Bool.{and_parts, leb-true, ltb-true}
 use Rattle.nres_core.specs.declared.op.Op.{Op}
-use Rattle.nres_core.specs.declared.op.Op.TheVariants as o
 use Rattle.target_code.specs.declared.tree.Proc.{Proc}
 use Rattle.target_code.specs.declared.tree.Rep.{Rep}
 use Rattle.run_laws.specs.RunLaws.{Laws}
@@ -15,52 +14,12 @@ use Rattle.fits.specs.Follow.{Views}
 use Rattle.fits_sound.specs.Meant.{Via_sound}
 use Rattle.fits_sound.specs.RowShapes.{shape_reps, row_on}
 use Rattle.fits_sound.specs.World.{Row_sound}
+use Rattle.fits_table.proofs.Numbers.{one_op}
 use Rattle.rows_fit.specs.RowsFit.{LooksAtTable}
 use Rattle.rows_fit.proofs.Leading.{leads, kept_kinds, kept_same, as_many}
 use Rattle.rows_fit.proofs.Rows.{via}
 use Rattle.rows_fit.proofs.Shapes.{no_slice}
 use Rattle.rows_fit.proofs.Through.{Through, AllThrough, all_through}
-
--- an operation by its number
-abbrev op_at : ℕ → Op
-op_at n = cond (nat_eq n 0) o.Zeros (cond (nat_eq n 1) o.Nil (cond (nat_eq n 2) o.Len (cond (nat_eq n 3) o.Get (cond (nat_eq n 4) o.SetAt (cond (nat_eq n 5) o.Swap (cond (nat_eq n 6) o.Push (cond (nat_eq n 7) o.Pop (cond (nat_eq n 8) o.CopyList (cond (nat_eq n 9) o.EmptySet (cond (nat_eq n 10) o.SizeSet (cond (nat_eq n 11) o.HasSet (cond (nat_eq n 12) o.Insert (cond (nat_eq n 13) o.Remove (cond (nat_eq n 14) o.Pick (cond (nat_eq n 15) o.Union (cond (nat_eq n 16) o.Elems (cond (nat_eq n 17) o.CopySet (cond (nat_eq n 18) o.EmptyMap (cond (nat_eq n 19) o.SizeMap (cond (nat_eq n 20) o.HasMap (cond (nat_eq n 21) o.Lookup (cond (nat_eq n 22) o.Put (cond (nat_eq n 23) o.Del (cond (nat_eq n 24) o.Keys (cond (nat_eq n 25) o.CopyMap (cond (nat_eq n 26) o.EmptyBag (cond (nat_eq n 27) o.SizeBag (cond (nat_eq n 28) o.Add (cond (nat_eq n 29) o.Minimum (cond (nat_eq n 30) o.TakeMin (o.CopyBag)))))))))))))))))))))))))))))))
-
-by_op : (x : Op) → op_at (op_number x) ≡ x
-by_op o.Zeros = refl
-by_op o.Nil = refl
-by_op o.Len = refl
-by_op o.Get = refl
-by_op o.SetAt = refl
-by_op o.Swap = refl
-by_op o.Push = refl
-by_op o.Pop = refl
-by_op o.CopyList = refl
-by_op o.EmptySet = refl
-by_op o.SizeSet = refl
-by_op o.HasSet = refl
-by_op o.Insert = refl
-by_op o.Remove = refl
-by_op o.Pick = refl
-by_op o.Union = refl
-by_op o.Elems = refl
-by_op o.CopySet = refl
-by_op o.EmptyMap = refl
-by_op o.SizeMap = refl
-by_op o.HasMap = refl
-by_op o.Lookup = refl
-by_op o.Put = refl
-by_op o.Del = refl
-by_op o.Keys = refl
-by_op o.CopyMap = refl
-by_op o.EmptyBag = refl
-by_op o.SizeBag = refl
-by_op o.Add = refl
-by_op o.Minimum = refl
-by_op o.TakeMin = refl
-by_op o.CopyBag = refl
-
-one_op : (x y : Op) → nat_eq (op_number x) (op_number y) ≡ true → x ≡ y
-one_op x y e = sym (by_op x) ∙ ap op_at (eqb-true (op_number x) (op_number y) e) ∙ by_op y
 
 -- ---- what is computed of each row
 

@@ -5,6 +5,7 @@ use Rattle.std.specs.Cmp.Derive.{both_true}
 use Rattle.std.proofs.Common.{refl, sym, ap, ◌∙◌, subst, eqb-true, eq-eqb}
 use Rattle.std.proofs.lemmas.Bool.{and_parts}
 use Rattle.std.proofs.lemmas.Slice.Eq.{bytes_eq-Decides}
+use Rattle.fits.specs.Follow.{calc_number}
 use Rattle.target_code.specs.declared.tree.Branch.{Branch}
 use Rattle.target_code.specs.declared.tree.Calc.{Calc}
 use Rattle.target_code.specs.declared.tree.Calc.TheVariants as calc
@@ -15,7 +16,7 @@ use Rattle.target_code.specs.declared.tree.Instr.TheOpen as I
 use Rattle.target_code.specs.declared.tree.Instr.TheViews.{roll-Instr, out-roll-Instr, roll-out-Instr, out-roll-Code, roll-out-Code}
 use Rattle.target_code.specs.declared.tree.Instr.TheFolds.{map-Instr, map-Code, fold_out-Instr, fold_out-Code, ind-Code}
 use Rattle.target_code.specs.declared.tree.Proc.{Proc}
-use Rattle.same_procs.specs.Same.{calc_number, same_numbers, same_span, same_hand, same_hands, same_branch, Layer, InstrTest, CodeTest, is_const, is_mov, is_calc, is_load, is_store, is_alloc, is_free, is_call, is_par, is_if, is_while, is_layer, instr_step, all_same, code_step, same_instr, same_code, same_proc, EqualsAreTold}
+use Rattle.same_procs.specs.Same.{same_numbers, same_span, same_hand, same_hands, same_branch, Layer, InstrTest, CodeTest, is_const, is_mov, is_calc, is_load, is_store, is_alloc, is_free, is_call, is_par, is_if, is_while, is_layer, instr_step, all_same, code_step, same_instr, same_code, same_proc, EqualsAreTold}
 
 -- ---- numbers and names
 

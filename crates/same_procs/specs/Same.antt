@@ -2,9 +2,9 @@
 use Rattle.std.specs.Prelude.{◌≡◌, ℕ, nat_eq, Bool, true, false, ◌&&◌, List, [], ◌∷◌, Option, Some, None}
 use Rattle.std.specs.Str.{bytes_eq}
 use Rattle.std.specs.Cmp.Lexicographic.{pointwise}
+use Rattle.fits.specs.Follow.{calc_number}
 use Rattle.target_code.specs.declared.tree.Branch.{Branch}
 use Rattle.target_code.specs.declared.tree.Calc.{Calc}
-use Rattle.target_code.specs.declared.tree.Calc.TheVariants as calc
 use Rattle.target_code.specs.declared.tree.Code.{Code}
 use Rattle.target_code.specs.declared.tree.Hand.{Hand}
 use Rattle.target_code.specs.declared.tree.Instr.{Instr, out-Instr}
@@ -13,24 +13,6 @@ use Rattle.target_code.specs.declared.tree.Instr.TheFolds.{fold-Instr, fold-Code
 use Rattle.target_code.specs.declared.tree.Proc.{Proc}
 
 -- ---- parts of instructions
-
-abbrev pub calc_number : Calc → ℕ
-calc_number calc.Add = 0
-calc_number calc.Sub = 1
-calc_number calc.Mul = 2
-calc_number calc.Div = 3
-calc_number calc.Mod = 4
-calc_number calc.Min = 5
-calc_number calc.Max = 6
-calc_number calc.Lt = 7
-calc_number calc.Le = 8
-calc_number calc.Eq = 9
-calc_number calc.Ne = 10
-calc_number calc.And = 11
-calc_number calc.Or = 12
-calc_number calc.Xor = 13
-calc_number calc.Shl = 14
-calc_number calc.Shr = 15
 
 abbrev pub same_numbers : List ℕ → List ℕ → Bool
 same_numbers = pointwise nat_eq

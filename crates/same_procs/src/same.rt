@@ -1,6 +1,7 @@
 //! Whether two procedures are the same, word for word. Nothing here takes memory.
 
 ghost use Rattle.std.specs.Prelude.{◌≡◌};
+ghost use Rattle.fits.specs.Follow as f;
 ghost use Rattle.target_code.specs.declared.tree.Instr.{out-Instr};
 ghost use Rattle.same_procs.specs.Same as spec;
 
@@ -9,7 +10,7 @@ use target_code::{Branch, Calc, Code, Hand, Instr, Proc};
 // ---- parts of instructions
 
 fn calc_number(word: Calc) -> u32
-    ensures { result ≡ spec.calc_number word }
+    ensures { result ≡ f.calc_number word }
 {
     match word {
         Calc::Add => 0,

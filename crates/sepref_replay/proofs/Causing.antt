@@ -13,7 +13,7 @@ use Rattle.run_begins.specs.Beginning.{AreHeld, AreUnfit}
 use Rattle.run_begins.proofs.Fitting.{given_fit}
 use Rattle.run_inputs.specs.Placing.{AllFit}
 use Rattle.run_results.specs.Results.{AllShow, FirstNone}
-use Rattle.execution_input.proofs.Held.{given_held}
+use Rattle.given_values.proofs.Held.{given_held}
 use Rattle.replay.specs.declared.answer.ReplayEnd.{ReplayEnd}
 use Rattle.replay.specs.declared.answer.ReplayEnd.TheVariants as end
 use Rattle.replay.specs.declared.schedule.Move.{Move}

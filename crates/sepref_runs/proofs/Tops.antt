@@ -22,7 +22,7 @@ use Rattle.run_begins.specs.Beginning.{AreHeld}
 use Rattle.run_begins.proofs.Fitting.{given_fit}
 use Rattle.run_inputs.specs.Placing.{AllFit}
 use Rattle.execution_input.specs.Executions.{IsExecution, NoValuesAt, front_of, rest_of, values_line}
-use Rattle.execution_input.proofs.Held.{given_held}
+use Rattle.given_values.proofs.Held.{given_held}
 use Rattle.program_run.specs.Ends.{RunMeans}
 use Rattle.replay.specs.declared.answer.ReplayEnd.{ReplayEnd}
 use Rattle.replay.specs.declared.answer.ReplayEnd.TheVariants as end

@@ -1,6 +1,6 @@
 //! A status with the bytes that are to be written for it.
 
-ghost use Rattle.std.specs.Prelude.{◌≡◌, ◌++◌, IfOk, OnOk};
+ghost use Rattle.std.specs.Prelude.{◌≡◌, ◌++◌, IfOk};
 ghost use Rattle.sepref_top.specs.InputLines as inputs;
 ghost use Rattle.sepref_top.specs.Statuses as statuses;
 ghost use Rattle.sepref_runs.specs.Texts.{bytes_of};
@@ -8,6 +8,7 @@ ghost use Rattle.sepref_runs.specs.Texts.{bytes_of};
 use crate::status::RunStatus;
 use inputs::InputFault;
 use nres_core::Place;
+use sepref_top::push_fault;
 use std::alloc::{AllocError, Global};
 use target_code::{Name, push_number};
 
@@ -63,22 +64,6 @@ pub(crate) fn number_line(alloc: Global, words: &[u8], number: u64) -> Result<Ve
     push_number(&mut line, number)?;
     line.push(b'\n')?;
     Ok(line)
-}
-
-/// What is wrong with a value, in words.
-fn push_fault(line: &mut Vec<u8>, fault: InputFault) -> Result<(), AllocError>
-    ensures { OnOk result (line.new.items ≡ line.old.items ++ inputs.fault_words fault) }
-{
-    match fault {
-        InputFault::Unknown => line.extend_from_slice(b"unknown"),
-        InputFault::Twice => line.extend_from_slice(b"twice"),
-        InputFault::Type_ => line.extend_from_slice(b"type"),
-        InputFault::Missing => line.extend_from_slice(b"missing"),
-        InputFault::Fit(number) => {
-            line.extend_from_slice(b"fit ")?;
-            push_number(line, number)
-        }
-    }
 }
 
 /// The line that tells what is wrong with the value of a name.

@@ -13,7 +13,7 @@ use Rattle.nres_syntax.specs.Refusals.{RefusedAt, RefusedDeep}
 use Rattle.nres_core.specs.declared.value.Value.{Value}
 use Rattle.inputs.specs.Inputs.{inputs}
 use Rattle.sepref_top.specs.Evaluation.{Evaluated, GivesLines}
-use Rattle.sepref_top.specs.Executions.{HasNoValues, IsExecution, IsNoProgram, IsProgram, NoValuesAt, front_of}
+use Rattle.execution_input.specs.Executions.{HasNoValues, IsExecution, IsNoProgram, IsProgram, NoValuesAt, front_of}
 use Rattle.sepref_top.specs.Statuses.{HasFailed, TellsLine, TellsPlace, TellsText, line_of}
 use Rattle.sepref_top.specs.Synthesis.{Canonical, Checked, Printed, Translated}
 use Rattle.sepref_top.specs.TypeLines.{type_line}

@@ -1,6 +1,5 @@
 pub mod Answers
 pub mod Evaluation
-pub mod Executions
 pub mod Faults
 pub mod InputLines
 pub mod Outcome

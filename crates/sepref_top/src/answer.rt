@@ -75,8 +75,8 @@ pub(crate) fn number_line(alloc: Global, words: &[u8], number: u64) -> Result<It
     Ok(Items::from_vec(line))
 }
 
-/// What is wrong with a value, in words.
-fn push_fault(line: &mut Vec<u8>, fault: InputFault) -> Result<(), AllocError>
+/// What is wrong with a value, in words, behind a line. Where there is no memory, the line may have a part of them.
+pub fn push_fault(line: &mut Vec<u8>, fault: InputFault) -> Result<(), AllocError>
     ensures { OnOk result (line.new.items ≡ line.old.items ++ inputs.fault_words fault) }
 {
     match fault {

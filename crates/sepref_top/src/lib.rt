@@ -3,13 +3,13 @@
 
 mod answer;
 mod evaluation;
-mod execution;
 mod status;
 mod synthesis;
 mod top;
 mod type_line;
 mod words;
 
+pub use answer::push_fault;
 pub use status::Status;
 pub use top::calm_main;
 pub use words::{Command, Line, read_words};

@@ -11,10 +11,10 @@ ghost use Rattle.sepref_top.specs.Texts.{bytes_of};
 ghost use Rattle.sepref_top.specs.declared.words.Line.{Line as LineOf};
 
 use crate::answer::{Answer, Text, number_line, place_line};
-use crate::execution::{Unrun, read_execution};
 use crate::status::Status;
 use crate::synthesis::spec_answer;
 use crate::words::{Command, Line, read_words};
+use execution_input::{Unrun, read_execution};
 use sep_io::{ReadEnd, Sink, Source, read_all, write_all};
 use std::alloc::{AllocError, Global};
 

@@ -4,52 +4,24 @@ use Rattle.std.specs.Cmp.Derive.{both_true}
 use Rattle.std.specs.Cmp.Lexicographic.{slice_cmp}
 use Rattle.std.specs.Ordering.{nat_cmp, is_lt}
 use Rattle.std.specs.Str.{bytes_eq}
-use Rattle.std.proofs.Common.{refl, sym, ap, ◌∙◌, subst, eqb-true, eq-eqb, ⊎_elim}
+use Rattle.std.proofs.Common.{refl, sym, ap, ◌∙◌, subst, eq-eqb, ⊎_elim}
 use Rattle.std.proofs.lemmas.Bool.{and_parts}
 use Rattle.fits.specs.Programs.{same_reps}
+use Rattle.fits_sound.proofs.Join.{same_rep_is}
 use Rattle.rule_check.specs.Context.{bound_in, rep_number, same_number, same_rep}
 use Rattle.soundness.specs.Shape.{AreRising}
 use Rattle.target_code.specs.declared.tree.InParam.{InParam}
 use Rattle.target_code.specs.declared.tree.Proc.{Proc}
 use Rattle.target_code.specs.declared.tree.Rep.{Rep}
-use Rattle.target_code.specs.declared.tree.Rep.TheVariants as rep
 use Rattle.unfit_line.specs.Tests.{Names, are_of, is_of, rise, same_ins}
 use Rattle.unfit_line.specs.UnfitLine.{TellsEqual}
 use Rattle.unfit_line.proofs.Names.{nothing, here, behind, first_or_behind, or_first, or_second, either_of, same_name, name_is}
 
 -- ---- representations
 
-abbrev rep_from : ℕ → Option ℕ → Rep
-rep_from n (Some u) = cond (nat_eq n 8) (rep.Bits u) (rep.Amap u)
-rep_from n None =
-    cond (nat_eq n 0) rep.Word (cond (nat_eq n 1) rep.Flag (cond (nat_eq n 2) rep.Array (cond (nat_eq n 3) rep.Slice (cond (nat_eq n 4) rep.Vec (cond (nat_eq n 5) rep.Hset (cond (nat_eq n 6) rep.Hmap rep.Heap))))))
-
-rep_back : (x : Rep) → rep_from (rep_number x) (bound_in x) ≡ x
-rep_back rep.Word = refl
-rep_back rep.Flag = refl
-rep_back rep.Array = refl
-rep_back rep.Slice = refl
-rep_back rep.Vec = refl
-rep_back (rep.Bits u) = refl
-rep_back rep.Hset = refl
-rep_back (rep.Amap u) = refl
-rep_back rep.Hmap = refl
-rep_back rep.Heap = refl
-
-number_is : (x y : Option ℕ) → same_number x y ≡ true → x ≡ y
-number_is None None e = refl
-number_is (Some m) (Some n) e = ap Some (eqb-true m n e)
-number_is None (Some n) e = absurd (let o : ⊥ = cc e in o)
-number_is (Some m) None e = absurd (let o : ⊥ = cc e in o)
-
 number_same : (x : Option ℕ) → same_number x x ≡ true
 number_same None = refl
 number_same (Some m) = eq-eqb m m refl
-
-rep_is : (x y : Rep) → same_rep x y ≡ true → x ≡ y
-rep_is x y e =
-    let p = and_parts (nat_eq (rep_number x) (rep_number y)) (same_number (bound_in x) (bound_in y)) e in
-    sym (rep_back x) ∙ ap (λ n. rep_from n (bound_in x)) (eqb-true (rep_number x) (rep_number y) p.0) ∙ ap (rep_from (rep_number y)) (number_is (bound_in x) (bound_in y) p.1) ∙ rep_back y
 
 rep_same : (x : Rep) → same_rep x x ≡ true
 rep_same x = both_true (eq-eqb (rep_number x) (rep_number x) refl) (number_same (bound_in x))
@@ -60,7 +32,7 @@ reps_are [] (y ∷ ys) e = absurd (let o : ⊥ = cc e in o)
 reps_are (x ∷ xs) [] e = absurd (let o : ⊥ = cc e in o)
 reps_are (x ∷ xs) (y ∷ ys) e =
     let p = and_parts (same_rep x y) (same_reps xs ys) e in
-    ap (λ z. z ∷ xs) (rep_is x y p.0) ∙ ap (λ z. y ∷ z) (reps_are xs ys p.1)
+    ap (λ z. z ∷ xs) (same_rep_is x y p.0) ∙ ap (λ z. y ∷ z) (reps_are xs ys p.1)
 
 pub reps_same : (xs : List Rep) → same_reps xs xs ≡ true
 reps_same [] = refl
@@ -89,7 +61,7 @@ ins_are (x ∷ xs) (y ∷ ys) e =
     let p = and_parts (bytes_eq x.name y.name && (same_rep x.rep y.rep && cond x.kept y.kept (not y.kept))) (same_ins xs ys) e in
     let q = and_parts (bytes_eq x.name y.name) (same_rep x.rep y.rep && cond x.kept y.kept (not y.kept)) p.0 in
     let r = and_parts (same_rep x.rep y.rep) (cond x.kept y.kept (not y.kept)) q.1 in
-    ap (λ z. in_of z x.rep x.kept ∷ xs) (name_is x.name y.name q.0) ∙ ap (λ z. in_of y.name z x.kept ∷ xs) (rep_is x.rep y.rep r.0)
+    ap (λ z. in_of z x.rep x.kept ∷ xs) (name_is x.name y.name q.0) ∙ ap (λ z. in_of y.name z x.kept ∷ xs) (same_rep_is x.rep y.rep r.0)
     ∙ ap (λ z. in_of y.name y.rep z ∷ xs) (mark_is x.kept y.kept r.1) ∙ ap (λ z. y ∷ z) (ins_are xs ys p.1)
 
 pub ins_same : (xs : List InParam) → same_ins xs xs ≡ true

@@ -14,9 +14,9 @@ use Rattle.inputs.specs.declared.refusal.InputFault.{InputFault}
 use Rattle.inputs.specs.declared.refusal.InputFault.TheVariants as fault
 use Rattle.image_laws.specs.Laws.{IsOfWords, IsSmallValue}
 use Rattle.run_begins.specs.Beginning.{AreHeld}
-use Rattle.execution_input.specs.Values.{GivenValuesAreHeld}
-use Rattle.execution_input.proofs.Counts.{few_tokens}
-use Rattle.execution_input.proofs.Numbers.{Below, PairsBelow, bag_small, bag_words, below_words, empty_small, map_small, map_words, no_entries, set_small, set_words}
+use Rattle.given_values.specs.Values.{GivenValuesAreHeld}
+use Rattle.given_values.proofs.Counts.{few_tokens}
+use Rattle.given_values.proofs.Numbers.{Below, PairsBelow, bag_small, bag_words, below_words, empty_small, map_small, map_words, no_entries, set_small, set_words}
 
 -- ---- what is read from tokens
 

@@ -1,6 +1,6 @@
 //! Laws of values. Each function does nothing; its contract is the law.
 
-ghost use Rattle.execution_input.specs.Values.{GivenValuesAreHeld};
+ghost use Rattle.given_values.specs.Values.{GivenValuesAreHeld};
 
 /// The numbers of the values that a text of fewer than 2^32 bytes gives to inputs are words, and they have fewer than 2^32
 /// elements.
