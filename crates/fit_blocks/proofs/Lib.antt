@@ -1,0 +1,9 @@
+pub mod AssertLemmas
+pub mod GrowsLemmas
+pub mod EndingLemmas
+pub mod ChoiceLemmas
+pub mod LoopLemmas
+pub mod EitherLemmas
+pub mod LentLemmas
+pub mod TurnLemmas
+pub mod HeadLemmas

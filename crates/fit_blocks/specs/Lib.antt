@@ -1,0 +1,7 @@
+pub mod Answers
+pub mod Asserts
+pub mod Blocks
+pub mod Choices
+pub mod Eithers
+pub mod Endings
+pub mod Loops

@@ -1,0 +1,10 @@
+pub mod AppliedLemmas
+pub mod GoingLemmas
+pub mod OrderLemmas
+pub mod PlainLemmas
+pub mod RegisterLemmas
+pub mod ResultLemmas
+pub mod RowLemmas
+pub mod ShapesLemmas
+pub mod UseLemmas
+pub mod WordsLemmas

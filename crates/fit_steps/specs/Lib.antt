@@ -1,0 +1,4 @@
+pub mod Applied
+pub mod Going
+pub mod Parts
+pub mod Used

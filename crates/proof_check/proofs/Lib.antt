@@ -1,0 +1,5 @@
+mod Fronts
+mod Needed
+mod Stood
+mod Verdicts
+mod Steps
