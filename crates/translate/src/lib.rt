@@ -1,0 +1,6 @@
+//! The translation of a flat specification into a program with a derivation.
+#![tactic(auto)]
+
+mod whole;
+
+pub use whole::{Translation, translate};
