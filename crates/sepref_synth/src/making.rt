@@ -83,7 +83,10 @@ fn translated<F: Follower>(alloc: Global, flat: &Flat) -> Result<Option<Synthesi
 /// # Errors
 ///
 /// Only where memory runs out.
-pub fn synthesize<F: Follower>(alloc: Global, flat: &Flat) -> Result<Option<Synthesized>, AllocError>
+pub fn synthesize<F: Follower>(
+    alloc: Global,
+    flat: &Flat,
+) -> Result<Option<Synthesized>, AllocError>
     requires typed { IsTypedFlat (flat_whole_of flat.now) }
     ensures { IfOk result (λ found. IfSome found (λ x. IsMadeFor (flat_whole_of flat.now) x)) }
 {

@@ -18,7 +18,11 @@ use sqlite_items::Items;
 use std::alloc::{AllocError, Global};
 
 /// The text of the program that is given for a specification, or why none is.
-fn translated<F: Follower>(alloc: Global, spec: &Spec, typing: &Typing) -> Result<Answer, AllocError>
+fn translated<F: Follower>(
+    alloc: Global,
+    spec: &Spec,
+    typing: &Typing,
+) -> Result<Answer, AllocError>
     requires names { have_names spec.now.params ≡ true }
     requires reads { IsReadSpec spec.now }
     requires typed { HasTyping spec.now typing.now }

@@ -25,12 +25,7 @@ pub(crate) fn ended(
     let mut words = Vec::new(alloc);
     words.push(String::from_str(alloc, word)?)?;
     let mut source = MemSource::new(input, most.0, Vec::from_slice(alloc, &[fails.0])?);
-    let mut sink = MemSink::new(
-        alloc,
-        ROOM,
-        most.1,
-        Vec::from_slice(alloc, &[fails.1])?,
-    )?;
+    let mut sink = MemSink::new(alloc, ROOM, most.1, Vec::from_slice(alloc, &[fails.1])?)?;
     let status = sepref_main::<PlainStore, DerivationWalk, MemSource, MemSink>(
         alloc,
         words.as_slice(),

@@ -20,11 +20,7 @@ const REFUSED: [(&str, u8, &str); 11] = [
         4,
         "! rule 2 8 union (bits 1000, bits 1000) twice s\n",
     ),
-    (
-        "",
-        2,
-        "! syntax 1 1\n",
-    ),
+    ("", 2, "! syntax 1 1\n"),
     (
         "spec a () : nat\n  return 18446744073709551616\nend\n",
         2,

@@ -5,12 +5,7 @@ use std::test::Fail;
 
 /// Numbers, and choices, of which the first side that passes is taken.
 const NUMBERS: [Case; 4] = [
-    (
-        "spec one () : nat\n  return 1\nend\n",
-        "",
-        0,
-        "= 1\n",
-    ),
+    ("spec one () : nat\n  return 1\nend\n", "", 0, "= 1\n"),
     (
         "spec over (a: nat) : nat\n  b <- a + 1\n  return b\nend\n",
         "with a = 18446744073709551615\n",
