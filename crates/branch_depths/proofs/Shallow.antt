@@ -135,8 +135,8 @@ runs_lead : (T : List Proc) (b d : ℕ) (Below : Way) → LeadsBelow T d Below �
 runs_lead T b d Below ih s xs t f h ns m hs fr = moves_lead T b d Below ih m.number s xs t f h ns m.moves hs fr
 
 deep_leads : (T : List Proc) (b d : ℕ) → LeadsBelow T d (Deep T b d)
-deep_leads T b zero s xs t m = m
-deep_leads T b (suc d) s xs t f h ns m hs fr = runs_lead T b d (Deep T b d) (deep_leads T b d) s xs t f h ns m hs fr
+deep_leads T b zero = λ s xs t m. m
+deep_leads T b (suc d) = λ s xs t f h ns m hs fr. runs_lead T b d (Deep T b d) (deep_leads T b d) s xs t f h ns m hs fr
 
 pub branch_shallow : BranchesAreShallow
 branch_shallow T b d s xs t q h ns m hs fr =

@@ -9,7 +9,7 @@ use Rattle.nres_core.specs.declared.value.Value.TheVariants as v
 use Rattle.nres_print.proofs.Originals.{AreFine, tokens_fine}
 use Rattle.scopes.specs.Names.{found_in, same_name}
 use Rattle.target_code.specs.declared.tree.InParam.{InParam}
-use Rattle.inputs.specs.Inputs.{Fault, Given, Wants, and_then, by_representations, chosen, chosen_of, taken, unless, value_fault}
+use Rattle.inputs.specs.Inputs.{Fault, Given, Wants, and_then, by_representations, chosen, chosen_of, program_inputs, taken, unless, value_fault}
 use Rattle.inputs.specs.declared.refusal.InputFault.{InputFault}
 use Rattle.inputs.specs.declared.refusal.InputFault.TheVariants as fault
 use Rattle.image_laws.specs.Laws.{IsOfWords, IsSmallValue}

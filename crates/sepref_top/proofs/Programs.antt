@@ -37,8 +37,8 @@ smallest p passes T formed s sound bounded = record {
   flat = s.0;
   passes = passes;
   formed = formed;
-  flat_is = s.1.0;
-  shape = grown s.0 T s.1.1;
+  flat_is = s.1;
+  shape = grown s.0 T s.2;
   sound = sound;
   bounded = bounded;
 }
