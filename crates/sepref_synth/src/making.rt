@@ -29,7 +29,7 @@ pub struct Synthesized {
 
 /// A program as its text reads, with the text; none where it has no text that reads.
 fn read_back(alloc: Global, program: &Program) -> Result<Option<(Program, Vec<u8>)>, AllocError>
-    ensures { IfOk result (λ found. IfSome found (λ x. IsRead x.0 x.1)) }
+    ensures { IfOk result (λ found. IfSome found (λ x. IsRead x.0 x.1.items)) }
 {
     let text = print_program(alloc, program)?;
     match read_program(alloc, text.as_slice()) {
@@ -48,7 +48,7 @@ fn checked<F: Follower>(
     lines: Items<ProofLine>,
 ) -> Result<Option<Synthesized>, AllocError>
     requires typed { IsTypedFlat (flat_whole_of flat.now) }
-    requires read { IsRead program text }
+    requires read { IsRead program text.items }
     requires served { sequential_whole (flat_whole_of flat.now) ≡ true }
     ensures { IfOk result (λ found. IfSome found (λ x. IsMadeFor (flat_whole_of flat.now) x)) }
 {
