@@ -1,0 +1,14 @@
+pub mod WalkLemmas
+pub mod SequentialLemmas
+pub mod PlainLemmas
+pub mod SideLemmas
+pub mod IfLemmas
+pub mod LoopsLemmas
+pub mod YesLemmas
+pub mod CycleLemmas
+pub mod ArmLemmas
+pub mod BeginLemmas
+pub mod KeptLemmas
+pub mod BodyLemmas
+pub mod TestLemmas
+pub mod WholeLemmas

@@ -1,0 +1,4 @@
+pub mod Bodies
+pub mod Plains
+pub mod Walks
+pub mod Wholes
