@@ -1,5 +1,6 @@
 //! Runs of the program in memory, and what they write.
 
+use derivation_walk::DerivationWalk;
 use plain_store::memory::PlainStore;
 use sep_io::{MemSink, MemSource};
 use sepref_runs::sepref_main;
@@ -53,7 +54,7 @@ pub(crate) fn is_answered(
     let input = Vec::from_slice(alloc, input)?;
     let mut source = MemSource::new(input, 16, Vec::from_slice(alloc, &[fails.0])?);
     let mut sink = MemSink::new(alloc, 4096, 16, Vec::from_slice(alloc, &[fails.1])?)?;
-    let status = sepref_main::<PlainStore, MemSource, MemSink>(
+    let status = sepref_main::<PlainStore, DerivationWalk, MemSource, MemSink>(
         alloc,
         words.as_slice(),
         &mut source,

@@ -1,6 +1,7 @@
 //! The program: it hands the words, standard input and standard output to the top call, and ends with the status's number.
 #![tactic(auto)]
 
+use derivation_walk::DerivationWalk;
 use plain_store::memory::PlainStore;
 use sep_io::{StdSink, StdSource};
 use sepref_runs::sepref_main;
@@ -44,7 +45,7 @@ fn main(rt: HostRuntime) -> ExitCode {
     };
     let mut source = StdSource::new(rt.stdin());
     let mut sink = StdSink::new(io::writer(&rt));
-    let status = sepref_main::<PlainStore, _, _>(
+    let status = sepref_main::<PlainStore, DerivationWalk, _, _>(
         rt.alloc(),
         words.as_slice(),
         &mut source,

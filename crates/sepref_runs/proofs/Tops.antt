@@ -103,6 +103,7 @@ module _ (l : Line) where
   as_due command.Synth text s output a = absurd a
   as_due command.Eval text s output a = absurd a
   as_due command.Run text s output a = absurd a
+  as_due command.Verify text s output a = absurd a
 
   pub is_due : {old new : Option (List ℕ)} {s : RunStatus} {output : List ℕ} → Due l old new s output → IsDue s
   is_due {s = s} {output = output} (Due.of_text text c e a) = as_due l.command text s output a
@@ -330,6 +331,7 @@ as_said command.Check l text s output a = absurd a
 as_said command.Synth l text s output a = absurd a
 as_said command.Eval l text s output a = absurd a
 as_said command.Run l text s output a = absurd a
+as_said command.Verify l text s output a = absurd a
 
 pub told_said : (l : Line) (text : List ℕ) (r : Result Telling AllocError) → IfOk r (λ t. SaysAs l.command l text t.status (bytes_of t.text)) → IsSaid (told_status r)
 told_said l text (Ok t) h = as_said l.command l text t.status (bytes_of t.text) h

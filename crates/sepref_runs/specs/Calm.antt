@@ -4,6 +4,7 @@ use Rattle.sep_io.specs.Faults.{Rose}
 use Rattle.sepref_top.specs.Answers.{Answers, Due, IsCanonical, IsEvaluation, IsSynthesis, ToldBy, Went}
 use Rattle.sepref_top.specs.Outcome.{AnswersUnlessLost, TellsLength, Wrote, longest}
 use Rattle.sepref_top.specs.Statuses.{TellsText}
+use Rattle.sepref_top.specs.Verifications.{IsVerified}
 use Rattle.sepref_top.specs.declared.status.Status.{Status}
 use Rattle.sepref_top.specs.declared.status.Status.TheVariants as calm
 use Rattle.sepref_top.specs.declared.words.Command.{Command}
@@ -44,6 +45,7 @@ pub record IsCalm (o : Option Line) (old new before after : Option (List ℕ)) (
   pub sound : (l : Line) → o ≡ Some l → l.command ≡ command.Synth → status ≡ calm.Done → Went IsSynthesis old new before after
   pub canonical : (l : Line) → o ≡ Some l → l.command ≡ command.Check → status ≡ calm.Done → Went IsCanonical old new before after
   pub evaluated : (l : Line) → o ≡ Some l → l.command ≡ command.Eval → status ≡ calm.Done → Went (IsEvaluation l.turns) old new before after
+  pub verified : (l : Line) → o ≡ Some l → l.command ≡ command.Verify → status ≡ calm.Done → Went IsVerified old new before after
   pub tells : (l : Line) → TellsText status → o ≡ Some l → Went (λ text output. Answers l text status output) old new before after
   pub told : (text : List ℕ) (l : Line) → old ≡ Some text → length text ≤ longest → o ≡ Some l → ToldBy l text status
   pub wrote : Wrote (Due o old new) status before after

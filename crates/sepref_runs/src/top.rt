@@ -15,6 +15,7 @@ use crate::execution::text_told;
 use crate::replaying::schedule_told;
 use crate::status::RunStatus;
 use crate::telling::{Telling, Text};
+use proof_check::Follower;
 use replay_causes::laws::an_input_has_one_cause;
 use run_stores::RunStore;
 use sep_io::{ReadEnd, Sink, Source, read_all, write_all};
@@ -38,7 +39,9 @@ fn command_told<S: RunStore + Drop>(
         Command::Exec => text_told::<S>(alloc, line, text),
         Command::Replay => schedule_told(alloc, line.heap, text),
         // No other command comes here.
-        Command::Check | Command::Synth | Command::Eval | Command::Run => Err(AllocError),
+        Command::Check | Command::Synth | Command::Eval | Command::Run | Command::Verify => {
+            Err(AllocError)
+        }
     }
 }
 
@@ -150,8 +153,9 @@ fn run_line(words: &[String]) -> Option<Line>
 }
 
 /// Does what the words ask for, with the bytes that the source gives, and writes to the sink. It serves `exec`, on one
-/// worker and over stores of this kind, and `replay`; all other words go to [`calm_main`] as they are.
-pub fn sepref_main<S: RunStore + Drop, I: Source, K: Sink>(
+/// worker and over stores of this kind, and `replay`; all other words go to [`calm_main`] as they are, with what follows a
+/// derivation.
+pub fn sepref_main<S: RunStore + Drop, F: Follower, I: Source, K: Sink>(
     alloc: Global,
     words: &[String],
     source: &mut I,
@@ -189,6 +193,6 @@ pub fn sepref_main<S: RunStore + Drop, I: Source, K: Sink>(
 {
     match run_line(words) {
         Some(line) => run_main::<S, I, K>(alloc, line, source, sink),
-        None => RunStatus::Calm(calm_main(alloc, words, source, sink)),
+        None => RunStatus::Calm(calm_main::<F, I, K>(alloc, words, source, sink)),
     }
 }

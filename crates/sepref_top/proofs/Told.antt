@@ -3,16 +3,11 @@ use Rattle.std.proofs.Common.{◌≡◌, ◌≢◌, ◌⊎◌, inl, inr, ℕ, �
 use Rattle.std.proofs.lemmas.List.{length-append}
 use Rattle.std.specs.Io.KnownBytes.{Consumes, IsAtEnd}
 use Rattle.sep_io.specs.Faults.{Gave}
-use Rattle.sep_lex.proofs.One as one
-use Rattle.nres_core.specs.Texts.{IsFile, SpecText, open_at_once, operators}
-use Rattle.nres_core.specs.Tokens.{first}
+use Rattle.nres_core.specs.Texts.{SpecText}
 use Rattle.nres_rules.specs.Types.{Wrong, Unbound, Mismatch, Arity, No_operation, Duplicate, Other_rep, refusal_of}
-use Rattle.nres_core.specs.Vocabulary.{all_seen}
 use Rattle.nres_core.specs.declared.place.Place.{Place}
 use Rattle.nres_core.specs.declared.tree.Spec.{Spec}
 use Rattle.nres_core.specs.declared.tree.With.{With}
-use Rattle.nres_automaton.proofs.CompleteTexts as complete
-use Rattle.nres_automaton.specs.Automaton.{accepted, specification}
 use Rattle.nres_automaton.specs.declared.refusal.SyntaxRefusal.{SyntaxRefusal}
 use Rattle.nres_automaton.specs.declared.refusal.SyntaxRefusal.TheVariants as refusal
 use Rattle.nres_types.specs.declared.refusal.TypeRefusal.{TypeRefusal}
@@ -27,17 +22,8 @@ use Rattle.sepref_top.specs.declared.status.Status.TheVariants as status
 use Rattle.sepref_top.specs.declared.words.Command.{Command}
 use Rattle.sepref_top.specs.declared.words.Command.TheVariants as command
 use Rattle.sepref_top.specs.declared.words.Line.{Line}
-
--- ---- a text has one tree
-
-pub one_tree : (text : List ℕ) (p q : Spec) (ws vs : List With) → SpecText text p ws → SpecText text q vs → (p ≡ q) × (ws ≡ vs)
-one_tree text p q ws vs s t =
-    let same = one.one s.1 t.0 t.1 in
-    let is_file : IsFile operators open_at_once (all_seen text s.0) q vs = subst (λ ts. IsFile operators open_at_once (all_seen text ts) q vs) (sym same) t.2 in
-    let here = complete.accepts first operators open_at_once (all_seen text s.0) p ws s.2 in
-    let there = complete.accepts first operators open_at_once (all_seen text s.0) q vs is_file in
-    let e : accepted (specification p ws) ≡ accepted (specification q vs) = sym here ∙ there in
-    (cc, cc)
+use Rattle.sepref_top.proofs.OneSpec.{one_tree}
+use Rattle.sepref_top.proofs.Verifying as verifying
 
 -- ---- texts of specifications
 
@@ -80,6 +66,7 @@ of_spec c l text status.NoRule output a = of_typed c l text _ output a
 of_spec c l text (status.NotProgram k) output a = of_typed c l text _ output a
 of_spec c l text (status.Fails k) output a = of_typed c l text _ output a
 of_spec c l text (status.OutOfTurns k) output a = of_typed c l text _ output a
+of_spec c l text (status.NoProof k) output a = of_typed c l text _ output a
 of_spec c l text status.NotYet output a = of_typed c l text _ output a
 of_spec c l text status.Usage output a = of_typed c l text _ output a
 of_spec c l text status.TooLong output a = of_typed c l text _ output a
@@ -112,6 +99,7 @@ of_execution text status.Input output a = absurd a
 of_execution text status.NoRule output a = absurd a
 of_execution text (status.Fails l) output a = absurd a
 of_execution text (status.OutOfTurns l) output a = absurd a
+of_execution text (status.NoProof l) output a = absurd a
 of_execution text status.Usage output a = absurd a
 of_execution text status.TooLong output a = absurd a
 of_execution text status.ReadFault output a = absurd a
@@ -127,6 +115,7 @@ told_as command.Eval l text s output a = of_spec command.Eval l text s output a
 told_as command.Run l text s output a = of_spec command.Run l text s output a
 told_as command.Exec l text s output a = of_execution text s output a
 told_as command.Replay l text s output a = inl a.0
+told_as command.Verify l text s output a = verifying.told_verification text s output a
 
 pub told : (l : Line) (text : List ℕ) (s : Status) (output : List ℕ) → Answers l text s output → ToldBy l text s
 told l = told_as l.command l
@@ -141,6 +130,7 @@ failed_as command.Eval l text s h = failed command.Eval l text s h
 failed_as command.Run l text s h = failed command.Run l text s h
 failed_as command.Exec l text s h = record { no_program = λ n. inr h; no_values = λ t p n. inr h; other = λ t ws i. inr h }
 failed_as command.Replay l text s h = inr h
+failed_as command.Verify l text s h = verifying.failed text s h
 
 pub failed_by : (l : Line) (text : List ℕ) (s : Status) → HasFailed s → ToldBy l text s
 failed_by l = failed_as l.command l

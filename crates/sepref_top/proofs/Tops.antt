@@ -37,6 +37,7 @@ module _ (old new : Option (List ℕ)) (output : List ℕ) where
   gave l (status.NotProgram k) h d = d
   gave l (status.Fails k) h d = d
   gave l (status.OutOfTurns k) h d = d
+  gave l (status.NoProof k) h d = d
   gave l status.NotYet h d = d
   gave l status.Usage h d = absurd h
   gave l status.TooLong h d = absurd h
@@ -88,6 +89,7 @@ module _ (old new : Option (List ℕ)) (output : List ℕ) where
       wrote_kept (status.NotProgram k) m f d a = (output, d, a)
       wrote_kept (status.Fails k) m f d a = (output, d, a)
       wrote_kept (status.OutOfTurns k) m f d a = (output, d, a)
+      wrote_kept (status.NoProof k) m f d a = (output, d, a)
       wrote_kept status.NotYet m f d a = (output, d, a)
       wrote_kept status.Usage m f d a = (output, d, a)
       wrote_kept status.TooLong m f d a = (output, d, a)
@@ -138,6 +140,7 @@ module _ (l : Line) (old new : Option (List ℕ)) (output text : List ℕ) (know
   due_told (status.NotProgram k) n d = told_so (status.NotProgram k) tt d
   due_told (status.Fails k) n d = told_so (status.Fails k) tt d
   due_told (status.OutOfTurns k) n d = told_so (status.OutOfTurns k) tt d
+  due_told (status.NoProof k) n d = told_so (status.NoProof k) tt d
   due_told status.NotYet n d = told_so status.NotYet tt d
   due_told status.ReadFault n d = told.failed_by l text status.ReadFault tt
   due_told status.TooLong n d = absurd (n refl)

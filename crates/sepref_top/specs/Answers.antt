@@ -18,6 +18,7 @@ use Rattle.sepref_top.specs.Statuses.{HasFailed, TellsLine, TellsPlace, TellsTex
 use Rattle.sepref_top.specs.Synthesis.{Canonical, Checked, Printed, Translated}
 use Rattle.sepref_top.specs.TypeLines.{type_line}
 use Rattle.sepref_top.specs.Texts.{bytes_of}
+use Rattle.sepref_top.specs.Verifications.{AnswersVerification, ToldVerification}
 use Rattle.sepref_top.specs.declared.answer.Answer.{Answer}
 use Rattle.sepref_top.specs.declared.status.Status.{Status}
 use Rattle.sepref_top.specs.declared.status.Status.TheVariants as status
@@ -108,6 +109,7 @@ AnswersExecution text s output = ⊥
 abbrev pub AnswersAs : Command → Line → List ℕ → Status → List ℕ → Type 0
 AnswersAs command.Exec l text s output = AnswersExecution text s output
 AnswersAs command.Replay l text s output = (s ≡ status.NotYet) × (output ≡ line_of status.NotYet)
+AnswersAs command.Verify l text s output = AnswersVerification text s output
 AnswersAs c l text s output = AnswersSpec c l text s output
 
 -- what a command line says of a text
@@ -137,6 +139,7 @@ pub record ToldExecution (text : List ℕ) (s : Status) : Type 0 where
 abbrev pub ToldAs : Command → Line → List ℕ → Status → Type 0
 ToldAs command.Exec l text s = ToldExecution text s
 ToldAs command.Replay l text s = (s ≡ status.NotYet) ⊎ HasFailed s
+ToldAs command.Verify l text s = ToldVerification text s
 ToldAs c l text s = Told c l text s
 
 abbrev pub ToldBy : Line → List ℕ → Status → Type 0

@@ -14,7 +14,8 @@ command_of_word word =
     else (if bytes_eq word (codes "run") then Some command.Run
     else (if bytes_eq word (codes "exec") then Some command.Exec
     else (if bytes_eq word (codes "replay") then Some command.Replay
-    else None)))))
+    else (if bytes_eq word (codes "verify") then Some command.Verify
+    else None))))))
 
 -- a command with no number, and with what each option is where it is not asked for
 abbrev pub plain : Command → Line

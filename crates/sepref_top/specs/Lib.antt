@@ -7,4 +7,5 @@ pub mod Statuses
 pub mod Synthesis
 pub mod Texts
 pub mod TypeLines
+pub mod Verifications
 pub mod CommandWords

@@ -16,6 +16,7 @@ code_of (status.NotProgram k) = 9
 code_of status.TooLong = 11
 code_of (status.Fails l) = 14
 code_of (status.OutOfTurns l) = 15
+code_of (status.NoProof l) = 16
 code_of status.ReadFault = 20
 code_of status.WriteFault = 21
 code_of status.Memory = 30
@@ -42,6 +43,7 @@ line_of (status.NotProgram k) = numbered (codes "! not a program ") k
 line_of status.TooLong = codes "! too long" ++ (10 ∷ [])
 line_of (status.Fails l) = numbered (codes "! fails ") l
 line_of (status.OutOfTurns l) = numbered (codes "! turns ") l
+line_of (status.NoProof l) = numbered (codes "! no proof ") l
 line_of status.ReadFault = codes "! read fault" ++ (10 ∷ [])
 line_of status.WriteFault = []
 line_of status.Memory = []
@@ -81,3 +83,8 @@ TellsPlace s = ⊥
 abbrev pub TellsLine : Status → Type 0
 TellsLine (status.NotProgram k) = Unit {0}
 TellsLine s = ⊥
+
+-- it tells the line at which a derivation is not followed
+abbrev pub TellsUnfit : Status → Type 0
+TellsUnfit (status.NoProof l) = Unit {0}
+TellsUnfit s = ⊥

@@ -7,6 +7,7 @@ mod status;
 mod synthesis;
 mod top;
 mod type_line;
+mod verification;
 mod words;
 
 pub use answer::push_fault;

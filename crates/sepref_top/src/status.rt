@@ -26,6 +26,8 @@ pub enum Status {
     NotProgram(u64),
     /// The source gave more than 1,048,576 bytes.
     TooLong,
+    /// The program fits the specification by no such derivation: this line is told, counted from the derivation's first.
+    NoProof(u64),
     /// The path of the first choices fails at a line.
     Fails(u64),
     /// The path of the first choices would begin one turn too many of the loop at a line, or make the call at a line inside too many
@@ -59,6 +61,7 @@ impl Status {
             Status::TooLong => 11,
             Status::Fails(_) => 14,
             Status::OutOfTurns(_) => 15,
+            Status::NoProof(_) => 16,
             Status::ReadFault => 20,
             Status::WriteFault => 21,
             Status::Memory => 30,

@@ -112,7 +112,9 @@ fn served(
         Command::Check => checked(alloc, spec, typing),
         Command::Synth => translated(alloc, spec, typing),
         Command::Eval => evaluated(alloc, line.turns, spec, withs),
-        Command::Run | Command::Exec | Command::Replay => Ok(Answer::of_line(Status::NotYet)),
+        Command::Run | Command::Exec | Command::Replay | Command::Verify => {
+            Ok(Answer::of_line(Status::NotYet))
+        }
     }
 }
 

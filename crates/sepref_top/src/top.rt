@@ -8,13 +8,16 @@ ghost use Rattle.sepref_top.specs.Outcome.{longest, AnswersUnlessLost, Lost, Tel
 ghost use Rattle.sepref_top.specs.Statuses.{TellsText};
 ghost use Rattle.sepref_top.specs.Answers.{Answered, Answers, AnswersExecution, Due, IsCanonical, IsEvaluation, IsSynthesis, ToldBy, Went, status_of};
 ghost use Rattle.sepref_top.specs.Texts.{bytes_of};
+ghost use Rattle.sepref_top.specs.Verifications.{IsVerified};
 ghost use Rattle.sepref_top.specs.declared.words.Line.{Line as LineOf};
 
 use crate::answer::{Answer, Text, number_line, place_line};
 use crate::status::Status;
 use crate::synthesis::spec_answer;
+use crate::verification::verification_answer;
 use crate::words::{Command, Line, read_words};
 use execution_input::{Unrun, read_execution};
+use proof_check::Follower;
 use sep_io::{ReadEnd, Sink, Source, read_all, write_all};
 use std::alloc::{AllocError, Global};
 
@@ -43,7 +46,7 @@ fn execution_answer(alloc: Global, text: &[u8]) -> Result<Answer, AllocError>
 }
 
 /// What a command line writes for a text, or the line that tells what the text is.
-fn text_answer(alloc: Global, line: Line, text: &[u8]) -> Result<Answer, AllocError>
+fn text_answer<F: Follower>(alloc: Global, line: Line, text: &[u8]) -> Result<Answer, AllocError>
     ensures { Answered (Answers line text.now) result }
 {
     match line.command {
@@ -52,11 +55,16 @@ fn text_answer(alloc: Global, line: Line, text: &[u8]) -> Result<Answer, AllocEr
         }
         Command::Exec => execution_answer(alloc, text),
         Command::Replay => Ok(Answer::of_line(Status::NotYet)),
+        Command::Verify => verification_answer::<F>(alloc, text),
     }
 }
 
 /// What is due to the words: a status, and what is to be written for it.
-fn answer<S: Source>(alloc: Global, words: &[String], source: &mut S) -> Result<Answer, AllocError>
+fn answer<F: Follower, S: Source>(
+    alloc: Global,
+    words: &[String],
+    source: &mut S,
+) -> Result<Answer, AllocError>
     ensures due { IfOk result (λ a. Due (asked words.now) (S.remaining source.old) (S.remaining source.new) a.status (bytes_of a.text)) }
     ensures no_command { asked words.now ≡ None → status_of result ≡ Status.Usage }
     ensures fault { status_of result ≡ Status.ReadFault → Rose (S.faults source.old) (S.faults source.new) }
@@ -69,7 +77,7 @@ fn answer<S: Source>(alloc: Global, words: &[String], source: &mut S) -> Result<
         return Ok(Answer::of_line(Status::Usage));
     };
     match read_all(alloc, source, LONGEST) {
-        Ok(text) => text_answer(alloc, line, text.as_slice()),
+        Ok(text) => text_answer::<F>(alloc, line, text.as_slice()),
         Err(ReadEnd::Fault) => Ok(Answer::of_line(Status::ReadFault)),
         Err(ReadEnd::TooLong) => Ok(Answer::of_line(Status::TooLong)),
         Err(ReadEnd::Memory) => Err(AllocError),
@@ -93,10 +101,11 @@ fn write_answer<K: Sink>(sink: &mut K, answer: &Answer) -> Status
 }
 
 /// Does what the words ask for, with the bytes that the source gives, and writes to the sink. It waits for nobody and
-/// returns. Served today are `eval` and `check`, on every specification, and `synth` on the smallest specifications; `run` and
-/// `exec` read their input and answer `NotYet`, `run` where it is a typed specification, `exec` where it is a program with values;
-/// `replay` answers so whatever its input is.
-pub fn calm_main<S: Source, K: Sink>(
+/// returns. Served today are `eval` and `check` on every specification, `verify` on those without `par` and `split`, and `synth` on
+/// the smallest specifications; what follows a derivation for `verify` is named by the caller. `run` and `exec` read their input and
+/// answer `NotYet`, `run` where it is a typed specification, `exec` where it is a program with values; `replay` answers so
+/// whatever its input is.
+pub fn calm_main<F: Follower, S: Source, K: Sink>(
     alloc: Global,
     words: &[String],
     source: &mut S,
@@ -124,6 +133,11 @@ pub fn calm_main<S: Source, K: Sink>(
     // lines of the results on its path of first choices, which it allows.
     ensures evaluated { (line : LineOf) → asked words.now ≡ Some line → line.command ≡ Command.Eval → result ≡ Status.Done
         → Went (IsEvaluation line.turns) (S.remaining source.old) (S.remaining source.new) (K.contents sink.old) (K.contents sink.new) }
+    // The bytes that were read are a typed specification, a formed program and a derivation by which the program fits the
+    // specification. So it has the specification's shape, is sound for it, and its runs are bounded wherever the specification
+    // ends. The bytes that were written are `ok`.
+    ensures verified { (line : LineOf) → asked words.now ≡ Some line → line.command ≡ Command.Verify → result ≡ Status.Done
+        → Went IsVerified (S.remaining source.old) (S.remaining source.new) (K.contents sink.old) (K.contents sink.new) }
     // Each status that tells of the input, `Done` among them, has its cause in what was read, and the line of that cause was
     // written: the table `Answers` has a line for each.
     ensures tells { (line : LineOf) → TellsText result → asked words.now ≡ Some line
@@ -140,7 +154,7 @@ pub fn calm_main<S: Source, K: Sink>(
     ensures read_count { S.faults source.old ≤ S.faults source.new }
     ensures write_count { K.faults sink.old ≤ K.faults sink.new }
 {
-    match answer(alloc, words, source) {
+    match answer::<F, S>(alloc, words, source) {
         Ok(answer) => write_answer(sink, &answer),
         Err(AllocError) => Status::Memory,
     }

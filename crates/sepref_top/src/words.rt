@@ -18,6 +18,8 @@ pub enum Command {
     Exec,
     /// To follow a schedule of a program.
     Replay,
+    /// To look whether a program fits a specification by a derivation.
+    Verify,
 }
 
 /// A command line: a command, with its number and its options.
@@ -68,6 +70,8 @@ fn command_word(word: &str) -> Option<Command>
         Some(Command::Exec)
     } else if word == "replay" {
         Some(Command::Replay)
+    } else if word == "verify" {
+        Some(Command::Verify)
     } else {
         None
     }

@@ -1,5 +1,6 @@
 //! Runs of the program in memory, and what they write.
 
+use derivation_walk::DerivationWalk;
 use sep_io::{MemSink, MemSource};
 use sepref_top::calm_main;
 use std::alloc::Global;
@@ -24,7 +25,12 @@ pub(crate) fn ended(
     let input = Vec::from_slice(alloc, input)?;
     let mut source = MemSource::new(input, 16, Vec::from_slice(alloc, &[fails.0])?);
     let mut sink = MemSink::new(alloc, 4096, 16, Vec::from_slice(alloc, &[fails.1])?)?;
-    let status = calm_main(alloc, owned.as_slice(), &mut source, &mut sink);
+    let status = calm_main::<DerivationWalk, MemSource, MemSink>(
+        alloc,
+        owned.as_slice(),
+        &mut source,
+        &mut sink,
+    );
     Ok((sink.written() == output).then_some(status.code()))
 }
 

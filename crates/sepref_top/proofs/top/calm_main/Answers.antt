@@ -28,6 +28,10 @@ pub returns-in-Ok-clause-evaluated : goal.returns-in-Ok-clause-evaluated
 returns-in-Ok-clause-evaluated g c = λ l a k e.
     tops.done _ _ _ _ _ _ c.in-Ok.ensures.due c.write_answer.ensures.status _ _ c.write_answer.ensures.whole c.write_answer.ensures.front l a command.Eval k e
 
+pub returns-in-Ok-clause-verified : goal.returns-in-Ok-clause-verified
+returns-in-Ok-clause-verified g c = λ l a k e.
+    tops.done _ _ _ _ _ _ c.in-Ok.ensures.due c.write_answer.ensures.status _ _ c.write_answer.ensures.whole c.write_answer.ensures.front l a command.Verify k e
+
 pub returns-in-Ok-clause-told : goal.returns-in-Ok-clause-told
 returns-in-Ok-clause-told g c = λ text l e m a.
     let gave = c.in-Ok.ensures.gave in
