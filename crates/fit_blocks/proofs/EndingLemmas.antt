@@ -11,7 +11,8 @@ use Rattle.context_laws.specs.Stacks.{AllDiffer, Held}
 use Rattle.fit_blocks.specs.Answers.{Ended, ends_at}
 use Rattle.fit_blocks.specs.Endings.{EndsHere, EndsWith, TestEnds, Moves_out, MovedOut, ends_here, ends_with, is_met, moved_out}
 use Rattle.fit_blocks.specs.declared.frame.Ends.{Ends}
-use Rattle.fit_blocks.proofs.GrowsLemmas.{differ_like, grows_context, grows_then, stays_falls, with_context}
+use Rattle.fit_blocks.proofs.GrowsLemmas.{grows_context, stays_falls, with_context}
+use Rattle.fit_state.proofs.HeldLemmas.{differ_like, grows_then}
 use Rattle.fit_state.specs.Passing.{Fails, GoesTo}
 use Rattle.fit_state.specs.States.{Grows, Is, IsKnown}
 use Rattle.fit_state.specs.declared.state.FitState.{FitState}

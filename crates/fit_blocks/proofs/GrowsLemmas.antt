@@ -23,23 +23,6 @@ use Rattle.rule_steps.specs.declared.state.State.{State as Rules}
 pub behind_then : {A : Type 0} (xs ys zs : List A) → IsBehind xs ys → IsBehind ys zs → IsBehind xs zs
 behind_then xs ys zs a b = (b.0 ++ a.0, b.1 ∙ ap (λ ws. b.0 ++ ws) a.1 ∙ sym (append_assoc b.0 a.0 xs))
 
-pub rules_then : (x y z : Rules) → r.Grows x y → r.Grows y z → r.Grows x z
-rules_then x y z a b = record {
-  saved = b.saved ∙ a.saved;
-  facts = behind_then x.facts y.facts z.facts a.facts b.facts;
-  calculations = behind_then x.calculations y.calculations z.calculations a.calculations b.calculations;
-  start = b.start ∙ a.start;
-}
-
-pub grows_then : (x y z : FitState) → Grows x y → Grows y z → Grows x z
-grows_then x y z a b = record {
-  rules = rules_then x.rules y.rules z.rules a.rules b.rules;
-  tokens = b.tokens ∙ a.tokens;
-  words = behind_then x.words y.words z.words a.words b.words;
-  next = let p = a.next in let q = b.next in omega (arith, p, q);
-  falls = falls_then x.rules.context.spots y.rules.context.spots z.rules.context.spots a.falls b.falls;
-}
-
 pub grows_same : (x : FitState) → Grows x x
 grows_same x = record {
   rules = record { saved = refl; facts = ([], refl); calculations = ([], refl); start = refl };
@@ -56,23 +39,6 @@ still_open x y g k =
     let e : length y.rules.calculations ≡ length c.0 + length x.rules.calculations = ap length c.1 ∙ length-append c.0 x.rules.calculations in
     let s : y.rules.start ≡ x.rules.start = g.rules.start in
     omega (arith, e, s, k)
-
--- ---- entries that differ in holds of numbers alone
-
-bare_place : (ss : List Spot) (v : ℕ) → place_in (bare_holds ss) v ≡ place_in ss v
-bare_place [] v = refl
-bare_place (s ∷ ss) v = λ i. cond (nat_eq s.var v) (Some (bare_count ss i)) (bare_place ss v i)
-
-bare_differ : (ss : List Spot) → AllDiffer ss → AllDiffer (bare_holds ss)
-bare_differ [] d = tt
-bare_differ (s ∷ ss) d = (bare_place ss s.var ∙ d.0, bare_differ ss d.1)
-
-differ_bare : (ss : List Spot) → AllDiffer (bare_holds ss) → AllDiffer ss
-differ_bare [] d = tt
-differ_bare (s ∷ ss) d = (sym (bare_place ss s.var) ∙ d.0, differ_bare ss d.1)
-
-pub differ_like : (ss ts : List Spot) → bare_holds ss ≡ bare_holds ts → AllDiffer ss → AllDiffer ts
-differ_like ss ts e d = differ_bare ts (subst AllDiffer e (bare_differ ss d))
 
 -- ---- what stood before
 

@@ -10,7 +10,8 @@ use Rattle.context_laws.specs.Stacks.{AllDiffer, Held}
 use Rattle.context_laws.specs.Steps as h
 use Rattle.entry_falls.proofs.FallsLemmas.{falls_none}
 use Rattle.fit_blocks.proofs.EndingLemmas.{is_held, only_unmet, passed_like}
-use Rattle.fit_blocks.proofs.GrowsLemmas.{differ_like, grows_context, grows_then, stays_falls, with_context}
+use Rattle.fit_blocks.proofs.GrowsLemmas.{grows_context, stays_falls, with_context}
+use Rattle.fit_state.proofs.HeldLemmas.{differ_like, grows_then}
 use Rattle.fit_blocks.proofs.LentLemmas.{lent_held}
 use Rattle.fit_blocks.specs.Blocks.{begun_at, block_opened}
 use Rattle.fit_blocks.specs.Loops.{HeadOpens, MovesIn, Moves_in, StartFails, StartsIn, base_of, inner_regs, loop_lines, moved_holds, moved_in, outer_of, starts_met}

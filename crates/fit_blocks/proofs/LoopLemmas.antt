@@ -2,7 +2,7 @@
 use Rattle.std.proofs.Common.{◌≡◌, ◌≤◌, ℕ, ◌&&◌, cond, List, sym, ap, ◌∙◌, subst, arith}
 use Rattle.std.specs.Prelude.{Option, Some, None, MatchOption}
 use Rattle.fit_blocks.proofs.EndingLemmas.{only_unmet}
-use Rattle.fit_blocks.proofs.GrowsLemmas.{grows_then}
+use Rattle.fit_state.proofs.HeldLemmas.{grows_then}
 use Rattle.fit_blocks.specs.Answers.{At}
 use Rattle.fit_blocks.specs.Loops.{LoopBegins, LoopFails, StartFails, StartsIn, binds_in, body_binds, body_end, inner_regs, loop_lines, moved_holds, starts_met, turn_body, turn_head}
 use Rattle.fit_blocks.specs.declared.looping.Loop.{Loop}

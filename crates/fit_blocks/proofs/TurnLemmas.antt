@@ -6,7 +6,8 @@ use Rattle.bare_holds.specs.Bare.{bare_holds}
 use Rattle.entry_falls.proofs.FallsLemmas.{falls_none}
 use Rattle.entry_falls.specs.Falls.{FallsFrom}
 use Rattle.facts.specs.Kept.{since}
-use Rattle.fit_blocks.proofs.GrowsLemmas.{back_rules, behind_then, dropped, grows_then, with_outside}
+use Rattle.fit_blocks.proofs.GrowsLemmas.{back_rules, behind_then, dropped, with_outside}
+use Rattle.fit_state.proofs.HeldLemmas.{grows_then}
 use Rattle.fit_blocks.specs.Blocks.{block_closed, rules_closed}
 use Rattle.fit_blocks.specs.Endings.{Test_over, TestEnds}
 use Rattle.fit_blocks.specs.Loops.{Head_over, Headed_at, Loop_over, OpenLoop, Test_met, TestMet, base_of, body_opened, head_of, loop_met, moved_holds, outer_of, test_end, test_kept, test_opened, told, words_kept}

@@ -2,7 +2,8 @@
 use Rattle.std.proofs.Common.{◌≡◌, ◌≤◌, ◌-◌, ℕ, suc, true, List, [], ◌∷◌, ◌++◌, length, drop, refl, sym, ap, ◌∙◌, subst, arith}
 use Rattle.std.specs.Prelude.{Option, Some, None, Result, Ok, Err, IfOk, MatchOption}
 use Rattle.context_laws.specs.Steps.{FallsBack}
-use Rattle.fit_blocks.proofs.GrowsLemmas.{behind_then, dropped, grows_same, grows_then, side_over, still_open}
+use Rattle.fit_blocks.proofs.GrowsLemmas.{behind_then, dropped, grows_same, side_over, still_open}
+use Rattle.fit_state.proofs.HeldLemmas.{grows_then}
 use Rattle.fit_blocks.specs.Answers.{AnswerIs, At, IsOpen, OverIs, Over_at, Results}
 use Rattle.fit_blocks.specs.Blocks.{begun_at, block_opened, side_closed, side_opened, with_branches}
 use Rattle.fit_blocks.specs.Choices.{forgetting, knowing}

@@ -63,10 +63,6 @@ both_tests h held H B e t k = k ∙ ap (λ z. z && B) (sym (sym e ∙ t))
 pub first_fails : (h held H B : Bool) → h ≡ H → h ≡ false → held ≡ false → held ≡ (H && B)
 first_fails h held H B e f k = k ∙ ap (λ z. z && B) (sym (sym e ∙ f))
 
-pub three_tests : (a b c : Bool) → ((a && b) && c) ≡ (a && (b && c))
-three_tests true b c = refl
-three_tests false b c = refl
-
 -- ---- what is kept
 
 pub kept_step : (ss : List Spot) (ys : List InParam) (gone : List ℕ) (i : ℕ) (y : InParam) (b kept : Bool) → i < length ys → y ≡ get_or ys i y → b ≡ kept_from ss i (drop i ys) gone → kept ≡ kept_at (spot_in ss i) y.kept gone → kept ≡ true → b ≡ kept_from ss (i + 1) (drop (i + 1) ys) gone

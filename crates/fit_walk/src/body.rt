@@ -119,9 +119,13 @@ fn finish(
     ensures { IfOk result (λ over. (V : ViewsOf) (s : p.State) → ViewsAre frame.now.views V → Is frame.now.regs state.old s → Older (begins body.now) s
         → FinishIs frame.now.regs V body.now s code.now state.new over) }
 {
-    match pass_all(state, frame.regs, code)? {
-        Some([]) => finish_here(alloc, frame, state, body),
-        _ => Ok(false),
+    let Some(left) = pass_all(state, frame.regs, code)? else {
+        return Ok(false);
+    };
+    if left.is_empty() {
+        finish_here(alloc, frame, state, body)
+    } else {
+        Ok(false)
     }
 }
 
@@ -187,8 +191,10 @@ fn is_met(
     if !(held && none_left(state, mark, vars.as_slice())) {
         return Ok(false);
     }
-    Ok(same_reps(infos, body.header.shown)
-        && only_kept(&state.rules.context, body.header.params, vars.as_slice()))
+    Ok(
+        same_reps(infos, body.header.shown)
+            && only_kept(&state.rules.context, body.header.params, vars.as_slice()),
+    )
 }
 
 /// Whether results are in these representations.

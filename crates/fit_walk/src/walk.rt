@@ -21,8 +21,8 @@ ghost use Rattle.rule_steps.specs.Ends.{astray_of};
 use crate::plain::walk_plain;
 use fit_blocks::{
     Choice, Ends, Frame, Headed, Joint, Loop, Over, Side, Starting, Taken, Unmet, begin_if,
-    begin_loop, end_head, end_loop, end_side, finish_block, forget_facts, learn,
-    leave_side, meet_sides, open_block, open_side, taken_side,
+    begin_loop, end_head, end_loop, end_side, finish_block, forget_facts, learn, leave_side,
+    meet_sides, open_block, open_side, taken_side,
 };
 use fit_state::{FitState, Rest};
 use nres_core::{Arg, FlatBind, FlatBlock, Place};
@@ -105,14 +105,24 @@ fn walk_bind<'a>(
                 return Ok(Err(Unmet { lines: rest.lines }));
             };
             match walk_head(cond.as_slice(), alloc, frame, state, &looping, &starting)? {
-                Ok(headed) => walk_turn(body, alloc, frame, state, &looping, (&headed, outs.as_slice())),
+                Ok(headed) => walk_turn(
+                    body,
+                    alloc,
+                    frame,
+                    state,
+                    &looping,
+                    (&headed, outs.as_slice()),
+                ),
                 Err(unmet) => Ok(Err(unmet)),
             }
         }
         FlatBind::Par { .. } => Ok(Err(Unmet { lines: rest.lines })),
         FlatBind::Split { .. } => Ok(Err(Unmet { lines: rest.lines })),
         FlatBind::Either {
-            outs, left, right, ..
+            outs,
+            left,
+            right,
+            ..
         } => match taken_side(rest.lines) {
             Some((true, lines)) => {
                 let rest = Rest {

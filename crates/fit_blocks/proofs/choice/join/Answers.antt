@@ -3,7 +3,7 @@ use Rattle.context_laws.specs.Stacks.{falls_at}
 use Rattle.entry_falls.specs.Falls.{FallsFrom}
 use Rattle.entry_falls.proofs.FallsLemmas.{falls_places}
 use Rattle.fit_blocks.proofs.ChoiceLemmas.{all_alike, met_is, not_same, same_as}
-use Rattle.fit_blocks.proofs.GrowsLemmas.{grows_then}
+use Rattle.fit_state.proofs.HeldLemmas.{grows_then}
 use Rattle.fit_state.specs.States.{Grows, Is}
 use Rattle.fit_state.specs.declared.state.FitState.{FitState}
 use Rattle.fit_tokens.specs.Changes.{after, changes_of, toks}

@@ -2,7 +2,7 @@ use Rattle.std.proofs.Common.{true, false, Some, sym, ap, ◌∙◌}
 use Rattle.std.specs.Prelude.{option_map}
 use Rattle.fit_blocks.proofs.EitherLemmas.{asked_as, is_taken, side_no_infos, side_not_over, side_not_taken, side_taken}
 use Rattle.fit_blocks.proofs.EndingLemmas.{args_found, when_none, when_some}
-use Rattle.fit_blocks.proofs.GrowsLemmas.{grows_then}
+use Rattle.fit_state.proofs.HeldLemmas.{grows_then}
 use Rattle.fit_blocks.specs.Blocks.{block_opened}
 use Rattle.fit_state.specs.Infos.{infos_of}
 use Rattle.fit_state.specs.States.{Grows}

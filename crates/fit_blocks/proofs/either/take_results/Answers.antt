@@ -1,6 +1,6 @@
 use Rattle.std.proofs.Common.{◌≡◌, true, false, None, length, sym, ap, ◌∙◌, subst}
 use Rattle.fit_blocks.proofs.EitherLemmas.{as_many_words, is_out, left_grows, left_next, many, order_as, side_left, takes_met, takes_refused, takes_unmet}
-use Rattle.fit_blocks.proofs.GrowsLemmas.{grows_then}
+use Rattle.fit_state.proofs.HeldLemmas.{grows_then}
 use Rattle.fit_blocks.specs.Blocks.{block_opened}
 use Rattle.fit_state.specs.Infos.{infos_of, lists_of}
 use Rattle.fit_state.specs.States.{Grows, Is}

@@ -15,8 +15,8 @@ returns-then-branch c = λ V views seq.
     let lines = lines_of c.args.lines.now in
     let y = c.walk_binds.new.state in
     let r = c.in-Ok.rest in
-    let w = c.in_ok-rest.ensures V (begins b) views (sequential_at b.block.now c.as_slice.result.now c.as_slice.ensures seq) c.requires.at c.requires.open in
-    let g = subst (λ z. AnswerIs R y (Ok r) (fit R V (body_flats b).binds (begins b) z lines)) c.as_slice-2.ensures (followed_at R V b.block.now c.as_slice.result.now (begins b) c.as_slice-2.result.now lines y c.in_ok-rest.field-0 (Ok r) c.as_slice.ensures c.in-Ok.is w.0) in
+    let w = c.in_ok-rest.ensures V (begins b) views (sequential_at b.block.now c.as_slice-2.result.now c.as_slice-2.ensures seq) c.requires.at c.requires.open in
+    let g = subst (λ z. AnswerIs R y (Ok r) (fit R V (body_flats b).binds (begins b) z lines)) c.as_slice.ensures (followed_at R V b.block.now c.as_slice-2.result.now (begins b) c.as_slice.result.now lines y c.in_ok-rest.field-0 (Ok r) c.as_slice-2.ensures c.in-Ok.is w.0) in
     let over = c.in_ok-finish-in-Ok.ensures V g.last views g.is (body.walk_older V b lines y r g c.requires.at.under) in
     body.walk_over V b lines y r g c.finish.new.state (record { lines = r.lines; branch = c.finish.new.state.branch }) refl refl (subst (FinishIs R V b g.last r.code.now c.finish.new.state) c.if-branch.true over)
 
@@ -27,8 +27,8 @@ returns-else-branch c = λ V views seq.
     let lines = lines_of c.args.lines.now in
     let y = c.walk_binds.new.state in
     let r = c.in-Ok.rest in
-    let w = c.in_ok-rest.ensures V (begins b) views (sequential_at b.block.now c.as_slice.result.now c.as_slice.ensures seq) c.requires.at c.requires.open in
-    let g = subst (λ z. AnswerIs R y (Ok r) (fit R V (body_flats b).binds (begins b) z lines)) c.as_slice-2.ensures (followed_at R V b.block.now c.as_slice.result.now (begins b) c.as_slice-2.result.now lines y c.in_ok-rest.field-0 (Ok r) c.as_slice.ensures c.in-Ok.is w.0) in
+    let w = c.in_ok-rest.ensures V (begins b) views (sequential_at b.block.now c.as_slice-2.result.now c.as_slice-2.ensures seq) c.requires.at c.requires.open in
+    let g = subst (λ z. AnswerIs R y (Ok r) (fit R V (body_flats b).binds (begins b) z lines)) c.as_slice.ensures (followed_at R V b.block.now c.as_slice-2.result.now (begins b) c.as_slice.result.now lines y c.in_ok-rest.field-0 (Ok r) c.as_slice-2.ensures c.in-Ok.is w.0) in
     let over = c.in_ok-finish-in-Ok.ensures V g.last views g.is (body.walk_older V b lines y r g c.requires.at.under) in
     body.walk_not_over V b lines y r g c.finish.new.state (record { lines = r.lines }) refl (subst (FinishIs R V b g.last r.code.now c.finish.new.state) c.if-branch.false over)
 
@@ -39,5 +39,5 @@ returns-in-Err c = λ V views seq.
     let lines = lines_of c.args.lines.now in
     let y = c.walk_binds.new.state in
     let m = c.in-Err.unmet in
-    let w = c.in_ok-rest.ensures V (begins b) views (sequential_at b.block.now c.as_slice.result.now c.as_slice.ensures seq) c.requires.at c.requires.open in
-    body.walk_unmet V b lines y m (subst (λ z. AnswerIs R y (Err m) (fit R V (body_flats b).binds (begins b) z lines)) c.as_slice-2.ensures (followed_at R V b.block.now c.as_slice.result.now (begins b) c.as_slice-2.result.now lines y c.in_ok-rest.field-0 (Err m) c.as_slice.ensures c.in-Err.is w.0))
+    let w = c.in_ok-rest.ensures V (begins b) views (sequential_at b.block.now c.as_slice-2.result.now c.as_slice-2.ensures seq) c.requires.at c.requires.open in
+    body.walk_unmet V b lines y m (subst (λ z. AnswerIs R y (Err m) (fit R V (body_flats b).binds (begins b) z lines)) c.as_slice.ensures (followed_at R V b.block.now c.as_slice-2.result.now (begins b) c.as_slice.result.now lines y c.in_ok-rest.field-0 (Err m) c.as_slice-2.ensures c.in-Err.is w.0))

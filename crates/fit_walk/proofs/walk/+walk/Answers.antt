@@ -1,8 +1,9 @@
 use Rattle.std.proofs.Common.{[], ap, ◌∙◌, refl, sym, subst}
 use Rattle.std.proofs.lemmas.List.{drop_all}
 use Rattle.std.specs.Prelude.{◌≡◌, true, false, IfOk, None, Some, Ok, Err}
-use Rattle.fit_blocks.proofs.GrowsLemmas.{grows_same, grows_then, still_open}
-use Rattle.fit_blocks.specs.Answers.{AnswerIs, At, BindIs, OverIs}
+use Rattle.fit_blocks.proofs.GrowsLemmas.{grows_same, still_open}
+use Rattle.fit_state.proofs.HeldLemmas.{grows_then}
+use Rattle.fit_blocks.specs.Answers.{AnswerIs, At, BindIs, Goes_on, OverIs}
 use Rattle.fit_blocks.specs.Choices.{IfBegins, IfFails}
 use Rattle.fit_blocks.specs.Loops.{LoopBegins, LoopFails}
 use Rattle.fit_blocks.specs.declared.looping.Starting.{Starting}
@@ -18,8 +19,9 @@ use Rattle.fit_walk.proofs.SideLemmas.{side_begins}
 use Rattle.fit_walk.proofs.WalkLemmas.{block_over, block_unmet, followed_at, reached_first, reached_last, reached_next, reached_unmet, sequential_at}
 use Rattle.fit_walk.proofs.YesLemmas.{taken_begins, taken_goes, taken_unmet, yes_begins, yes_over, yes_state}
 use Rattle.fit_walk.specs.Walks.{SideWalked, HeadWalked}
-use Rattle.fits.specs.Follow.{fit, in_test}
+use Rattle.fits.specs.Follow.{Unmet, block, fit, in_test}
 use Rattle.fits.specs.Places.{begun_state, with_branch}
+use Rattle.rule_check.specs.Steps.{no_list}
 use Rattle.sequential.specs.Sequential.{sequential}
 use Rattle.nres_core.specs.FlatTree.{before_of, binds_of, flats_of}
 use Rattle.proof_lines.specs.Lines.{lines_of}
@@ -77,9 +79,11 @@ pub walk_block-returns-in-Err : goal.walk_block-returns-in-Err
 walk_block-returns-in-Err t c = λ V s views seq at o.
     let R = c.args.frame.now.regs in
     let l = c.args.block.now in
-    let w = c.in_ok-rest in
-    (block_unmet R V (flats_of l).binds c.args.ends.now (flats_of l).ending s c.args.rest.code.now (lines_of c.args.rest.lines.now) c.walk_binds.new.state c.in-Err.unmet
-    (followed_at R V l c.as_slice.result.now s c.args.rest.code.now (lines_of c.args.rest.lines.now) c.walk_binds.new.state w.field-0 (Err c.in-Err.unmet) c.as_slice.ensures c.in-Err.is (w.ensures V s views (sequential_at l c.as_slice.result.now c.as_slice.ensures seq) at o).0), tt)
+    let w = c.in_ok-rest in (
+      block_unmet R V (flats_of l).binds c.args.ends.now (flats_of l).ending s c.args.rest.code.now (lines_of c.args.rest.lines.now) c.walk_binds.new.state c.in-Err.unmet
+          (followed_at R V l c.as_slice.result.now s c.args.rest.code.now (lines_of c.args.rest.lines.now) c.walk_binds.new.state w.field-0 (Err c.in-Err.unmet) c.as_slice.ensures c.in-Err.is (w.ensures V s views (sequential_at l c.as_slice.result.now c.as_slice.ensures seq) at o).0),
+      tt,
+    )
 
 -- ---- sides
 
@@ -95,9 +99,10 @@ walk_side-returns-in_ok-leave_side-in-Ok t c = λ V u views seq at.
     let side = c.in_ok-leave_side-in-Ok.field-0 in
     let left = c.in_ok-leave_side-in-Ok.ensures.left in
     let w = over_as R y (flats_of l).ending c.args.targets.now _ (Grows z y) _ _ c.in-Ok.is (c.in_ok-over.ensures V (begun_state u []) views seq (subst (λ q. At R q (begun_state u [])) (sym opened) (side_begins R x u at)) (side_open x z opened)) in
-    let grows = opened_grows x z y opened w.1 in
-    (side_walked R V (flats_of l).binds (flats_of l).ending c.args.targets.now x u at c.args.rest.code.now (lines_of c.args.rest.lines.now) y c.leave_side.new.state b c.in-Ok.over side c.in_ok-begun.ensures.begun grows w.0 left,
-    side_grows x y c.leave_side.new.state b c.in_ok-begun.ensures.begun grows left.2)
+    let grows = opened_grows x z y opened w.1 in (
+      side_walked R V (flats_of l).binds (flats_of l).ending c.args.targets.now x u at c.args.rest.code.now (lines_of c.args.rest.lines.now) y c.leave_side.new.state b c.in-Ok.over side c.in_ok-begun.ensures.begun grows w.0 left,
+      side_grows x y c.leave_side.new.state b c.in_ok-begun.ensures.begun grows left.2,
+    )
 
 pub walk_side-returns-in-Err : goal.walk_side-returns-in-Err
 walk_side-returns-in-Err t c = λ V u views seq at.
@@ -121,9 +126,10 @@ walk_yes-returns-in-Ok t c = λ V u views seq at.
     let mid = c.walk_side.new.state in
     let new = c.forget_facts.new.state in
     let m = c.in_ok-mark in
-    let w = side_as R y mid (yes_state R V (flats_of l).binds (flats_of l).ending ch.targets.now x u at c.args.test.0 c.args.test.1 ch.yes.now (lines_of ch.after.lines.now)) (flats_of l).ending ch.targets.now _ (Grows y mid) _ _ c.in-Ok.is (c.in_ok-side.ensures V (yes_state R V (flats_of l).binds (flats_of l).ending ch.targets.now x u at c.args.test.0 c.args.test.1 ch.yes.now (lines_of ch.after.lines.now)) views seq (yes_begins R V (flats_of l).binds (flats_of l).ending ch.targets.now x u at c.args.test.0 c.args.test.1 ch.yes.now (lines_of ch.after.lines.now) y m.ensures.state)) in
-    (yes_over R V (flats_of l).binds (flats_of l).ending ch.targets.now x u at c.args.test.0 c.args.test.1 ch.yes.now (lines_of ch.after.lines.now) y mid new m.mark c.in-Ok.side m.ensures.state m.ensures.count c.forget_facts.ensures w.0,
-    yes_grows x y mid new _ m.mark m.ensures.state m.ensures.count c.forget_facts.ensures w.1)
+    let w = side_as R y mid (yes_state R V (flats_of l).binds (flats_of l).ending ch.targets.now x u at c.args.test.0 c.args.test.1 ch.yes.now (lines_of ch.after.lines.now)) (flats_of l).ending ch.targets.now _ (Grows y mid) _ _ c.in-Ok.is (c.in_ok-side.ensures V (yes_state R V (flats_of l).binds (flats_of l).ending ch.targets.now x u at c.args.test.0 c.args.test.1 ch.yes.now (lines_of ch.after.lines.now)) views seq (yes_begins R V (flats_of l).binds (flats_of l).ending ch.targets.now x u at c.args.test.0 c.args.test.1 ch.yes.now (lines_of ch.after.lines.now) y m.ensures.state)) in (
+      yes_over R V (flats_of l).binds (flats_of l).ending ch.targets.now x u at c.args.test.0 c.args.test.1 ch.yes.now (lines_of ch.after.lines.now) y mid new m.mark c.in-Ok.side m.ensures.state m.ensures.count c.forget_facts.ensures w.0,
+      yes_grows x y mid new _ m.mark m.ensures.state m.ensures.count c.forget_facts.ensures w.1,
+    )
 
 pub walk_yes-returns-in-Err : goal.walk_yes-returns-in-Err
 walk_yes-returns-in-Err t c = λ V u views seq at.
@@ -206,7 +212,8 @@ walk_head-returns-in-Ok t c =
     if_ok_then c.end_head.result _ _
     (λ over h V u infos q views seq opened.
     let w = answer_as R y _ (Grows x y) _ _ c.in-Ok.is (c.in_ok-rest.ensures V (in_test (loops.head R V u infos st lo q)) views seq (loops.test_at R V u infos st lo q x opened) (loops.test_open R V u infos st lo q x opened)) in
-    loops.head_walked R V u infos st lo q (binds_of c.args.binds.now) y c.in-Ok.rest w.0 new over (subst (λ z. Grows z y) opened w.1) h)
+    let followed = subst (λ z. Goes_on R y c.in-Ok.rest (fit R V (binds_of c.args.binds.now) (in_test (loops.head R V u infos st lo q)) z (lines_of lo.code.lines.now))) c.as_slice.ensures w.0 in
+    loops.head_walked R V u infos st lo q (binds_of c.args.binds.now) y c.in-Ok.rest followed new over (subst (λ z. Grows z y) opened w.1) h)
     c.end_head.ensures.ends
 
 pub walk_head-returns-in-Err : goal.walk_head-returns-in-Err
@@ -217,7 +224,7 @@ walk_head-returns-in-Err t c = λ V u infos q views seq opened.
     let x = c.args.state.now in
     let y = c.walk_binds.new.state in
     let w = (answer_as R y _ (Grows x y) _ _ c.in-Err.is (c.in_ok-rest.ensures V (in_test (loops.head R V u infos st lo q)) views seq (loops.test_at R V u infos st lo q x opened) (loops.test_open R V u infos st lo q x opened))).0 in
-    loops.test_unmet R V u infos st lo q (binds_of c.args.binds.now) c.in-Err.unmet w
+    loops.test_unmet R V u infos st lo q (binds_of c.args.binds.now) c.in-Err.unmet (subst (λ z. fit R V (binds_of c.args.binds.now) (in_test (loops.head R V u infos st lo q)) z (lines_of lo.code.lines.now) ≡ Unmet (lines_of c.in-Err.unmet.lines.now)) c.as_slice.ensures w)
 
 pub walk_turn-returns-in-Ok : goal.walk_turn-returns-in-Ok
 walk_turn-returns-in-Ok t c =
@@ -232,7 +239,8 @@ walk_turn-returns-in-Ok t c =
     if_ok_then c.end_loop.result _ _
     (λ r h V u last infos st q views seq headed same.
     let w = over_as R y (flats_of l).ending lo.code.targets.now _ (Grows x y) _ _ c.in-Ok.is (c.in_ok-over.ensures V (loops.body_begins R V u infos st lo q x hd last headed) views seq (loops.body_at R V u infos st lo q x hd last headed) (loops.body_open R V u infos st lo q x hd last headed)) in
-    loops.turned_over R V u infos st lo q x hd last headed (flats_of l) same outs y c.in-Ok.over w.0 w.1 new r h)
+    let body = subst (λ z. OverIs R y (flats_of l).ending lo.code.targets.now (Ok c.in-Ok.over) (block R V (fit R V (flats_of l).binds) lo.begun.count lo.begun.next no_list (flats_of l).ending lo.code.targets.now (loops.body_begins R V u infos st lo q x hd last headed) z (lines_of hd.lines.now))) c.as_slice.ensures w.0 in
+    loops.turned_over R V u infos st lo q x hd last headed (flats_of l) same outs y c.in-Ok.over body w.1 new r h)
     c.end_loop.ensures.ends
 
 pub walk_turn-returns-in-Err : goal.walk_turn-returns-in-Err
@@ -245,7 +253,8 @@ walk_turn-returns-in-Err t c = λ V u last infos st q views seq headed same.
     let x = c.args.state.now in
     let y = c.walk_block.new.state in
     let w = (over_as R y (flats_of l).ending lo.code.targets.now _ (Grows x y) _ _ c.in-Err.is (c.in_ok-over.ensures V (loops.body_begins R V u infos st lo q x hd last headed) views seq (loops.body_at R V u infos st lo q x hd last headed) (loops.body_open R V u infos st lo q x hd last headed))).0 in
-    (loops.turned_unmet R V u infos st lo q x hd last headed (flats_of l) same outs y y c.in-Err.unmet w, tt)
+    let body = subst (λ z. OverIs R y (flats_of l).ending lo.code.targets.now (Err c.in-Err.unmet) (block R V (fit R V (flats_of l).binds) lo.begun.count lo.begun.next no_list (flats_of l).ending lo.code.targets.now (loops.body_begins R V u infos st lo q x hd last headed) z (lines_of hd.lines.now))) c.as_slice.ensures w in
+    (loops.turned_unmet R V u infos st lo q x hd last headed (flats_of l) same outs y y c.in-Err.unmet body, tt)
 
 -- ---- binds with blocks
 

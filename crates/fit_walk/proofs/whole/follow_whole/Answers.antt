@@ -1,4 +1,4 @@
-use Rattle.std.proofs.Common.{◌≡◌, ◌+◌, true, length, ap, ◌∙◌, refl, sym}
+use Rattle.std.proofs.Common.{◌≡◌, ◌+◌, arith, true, length, ap, ◌∙◌, refl, sym}
 use Rattle.std.proofs.lemmas.Bool.{and_parts}
 use Rattle.std.specs.Prelude.{Err, Ok}
 use Rattle.fit_walk.proofs.CycleLemmas.{ok_as}
@@ -21,8 +21,9 @@ returns-in_ok-next-in-Ok c =
     (λ said h V all.
     let views = views_are fl c.args.procs.now (record { names = c.as_slice.result; funs = funs.result; procs = c.args.procs }) V all c.as_slice.ensures funs.ensures refl in
     let main = ok_as (BodyIs (main_followed V (flat_whole_of fl) lines)) _ _ c.in-Ok.is (c.in_ok-past.ensures V views c.requires) in
-    main_over V fl lines c.in-Ok.past main c.in_ok-next-in-Ok.next funs.result.now said
-    (c.in_ok-next-in-Ok.ensures ∙ ap (λ ps. 0 + length ps + bound_in (flats_of fl.body).binds) c.as_slice-in-Ok.ensures) funs.ensures
+    let behind = c.in_ok-next-in-Ok.ensures ∙ ap (λ ps. 0 + length ps + bound_in (flats_of fl.body).binds) c.as_slice-in-Ok.ensures in
+    let next : c.in_ok-next-in-Ok.next ≡ length fl.params + bound_in (flats_of fl.body).binds = omega (arith, behind) in
+    main_over V fl lines c.in-Ok.past main c.in_ok-next-in-Ok.next funs.result.now said next funs.ensures
     (h V main.last views (ap (λ fs. sequential_procs (flat_procs_of fs)) funs.ensures ∙ both.1) main.branch))
     c.follow_procs.ensures
 
