@@ -20,7 +20,7 @@ use program_run::{RunEnd, run_whole};
 use proof_check::Follower;
 use run_lines::push_end;
 use run_stores::RunStore;
-use sepref_top::{Answer, Line, Status, runnable};
+use sepref_top::{Answer, Line, Status, program_for_text};
 use std::alloc::{AllocError, Global};
 use target_code::Program;
 
@@ -137,7 +137,7 @@ pub fn spec_told<S: RunStore + Drop, F: Follower>(
     requires few { line.steps ≤ 2 ^ 62 }
     ensures { IfOk result (λ told. SaysRun line text.now told.status (bytes_of told.text)) }
 {
-    match runnable::<F>(alloc, text)? {
+    match program_for_text::<F>(alloc, text)? {
         Ok(found) => given_told::<S>(alloc, line, &found.program, found.withs.as_slice()),
         Err(answer) => answer_told(alloc, &answer),
     }

@@ -13,7 +13,7 @@ mod verification;
 mod words;
 
 pub use answer::{Answer, Text, push_fault};
-pub use making::{Runnable, runnable};
+pub use making::{Runnable, program_for_text};
 pub use status::Status;
 pub use top::calm_main;
 pub use words::{Command, Line, read_words};

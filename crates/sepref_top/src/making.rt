@@ -158,7 +158,7 @@ pub(crate) fn program_of<F: Follower>(
 }
 
 /// The program that is given for a typed specification, with the values behind that.
-fn runnable_of<F: Follower>(
+fn with_values<F: Follower>(
     alloc: Global,
     found: TypedSpec,
 ) -> Result<Result<Runnable, Answer>, AllocError>
@@ -182,14 +182,14 @@ fn runnable_of<F: Follower>(
 /// # Errors
 ///
 /// Only where memory runs out.
-pub fn runnable<F: Follower>(
+pub fn program_for_text<F: Follower>(
     alloc: Global,
     text: &[u8],
 ) -> Result<Result<Runnable, Answer>, AllocError>
     ensures { IfOk result (λ said. SaysProgram text.now said) }
 {
     match typed_text(alloc, text)? {
-        Ok(found) => runnable_of::<F>(alloc, found),
+        Ok(found) => with_values::<F>(alloc, found),
         Err(answer) => Ok(Err(answer)),
     }
 }
