@@ -48,7 +48,5 @@ module _ (w : FlatWhole) (T : Program) where
     by_said (Err u) h =
         (lines_of u.lines.now, h, ap (λ n. suc (n - length u.lines.now)) (sym (as_many lines)) ∙ ap (λ n. suc (length (lines_of lines) - n)) (sym (as_many u.lines.now)))
 
-    pub followed_so : (ps : List Proc) → ps ≡ T.procs → (r : Result ℕ Unmet) → ((U : Views) → FlatViews w ps U → WholeIs (follow_whole U w (lines_of lines)) r) → (n : ℕ) → n ≡ length lines
-        → (a : Followed) → a ≡ followed_as n r → IsFollowedTo w T lines a
-    followed_so ps e r h n l a s =
-        subst (IsFollowedTo w T lines) (sym s) (subst (λ k. IsFollowedTo w T lines (followed_as k r)) (sym l) (by_said r (h V (subst (λ qs. FlatViews w qs V) (sym e) views_are))))
+    pub followed_so : (ps : List Proc) → ps ≡ T.procs → (r : Result ℕ Unmet) → ((U : Views) → FlatViews w ps U → WholeIs (follow_whole U w (lines_of lines)) r) → (a : Followed) → a ≡ followed_as (length lines) r → IsFollowedTo w T lines a
+    followed_so ps e r h a s = subst (IsFollowedTo w T lines) (sym s) (by_said r (h V (subst (λ qs. FlatViews w qs V) (sym e) views_are)))
