@@ -1,0 +1,4 @@
+mod LogsLemmas
+pub mod PutsLemmas
+mod SpanLemmas
+mod WordsLemmas
