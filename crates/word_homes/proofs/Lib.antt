@@ -1,4 +1,3 @@
-mod LogsLemmas
-pub mod PutsLemmas
+mod PutsLemmas
 mod SpanLemmas
 mod WordsLemmas

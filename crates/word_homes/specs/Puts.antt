@@ -1,51 +1,23 @@
--- Where variables stand, as what was put of them.
-use Rattle.std.specs.Prelude.{ℕ, List, [], ◌∷◌, ◌++◌}
-use Rattle.fits.specs.Places.{put}
+-- Where variables stand, as names by variable.
+use Rattle.std.specs.Prelude.{ℕ, Option, Some, None}
+use Rattle.fits.specs.Places.{Token, Number, Of}
+use Rattle.fit_tokens.specs.Changes.{Known, toks}
 use Rattle.prints.specs.declared.home.Home.{Home}
-use Rattle.prints.specs.declared.home.Home.TheVariants.{Literal}
+use Rattle.prints.specs.declared.home.Home.TheVariants.{Register, Literal}
 
--- a variable stands there from here on
-pub record Change : Type 0 where
-  pub var : ℕ
-  pub home : Home
+-- a literal by its number, a register as the first word of its number
+abbrev pub name_of : Home → Token
+name_of (Register r) = Of r 0
+name_of (Literal n) = Number n
 
-abbrev pub change : ℕ → Home → Change
-change v h = record { var = v; home = h }
+abbrev pub home_of : Token → Home
+home_of (Number n) = Literal n
+home_of (Of r j) = Register r
 
--- what was put since the last mark, in order, and from each mark to the next, the last first
-pub record Known : Type 0 where
-  pub changes : List Change
-  pub saved : List (List Change)
-
-abbrev pub after : List Change → (ℕ → Home) → ℕ → Home
-after [] homes = homes
-after (c ∷ cs) homes = after cs (put homes c.var c.home)
-
--- without a put a variable is the literal 0
-abbrev pub no_home : ℕ → Home
-no_home v = Literal 0
-
-abbrev pub before_all : List (List Change) → ℕ → Home
-before_all [] = no_home
-before_all (cs ∷ css) = after cs (before_all css)
+-- without a name a variable is the literal 0
+abbrev pub home_named : Option Token → Home
+home_named None = Literal 0
+home_named (Some t) = home_of t
 
 abbrev pub homes : Known → ℕ → Home
-homes x = after x.changes (before_all x.saved)
-
--- ---- what calls do
-
-abbrev pub with_changes : Known → List Change → Known
-with_changes x cs = record { changes = x.changes ++ cs; saved = x.saved }
-
-abbrev pub with_change : Known → Change → Known
-with_change x c = with_changes x (c ∷ [])
-
-abbrev pub marked : Known → Known
-marked x = record { changes = []; saved = x.changes ∷ x.saved }
-
-abbrev pub back_to : Known → List (List Change) → Known
-back_to x [] = x
-back_to x (cs ∷ css) = record { changes = cs; saved = css }
-
-abbrev pub back_at : Known → Known
-back_at x = back_to x x.saved
+homes x v = home_named (toks x v)

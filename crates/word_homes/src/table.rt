@@ -1,43 +1,27 @@
 //! Where variables stand, with what was put since marks.
 
-ghost use Rattle.std.specs.Prelude.{◌≡◌, [], length, take, OnOk, OnErr};
-ghost use Rattle.word_homes.specs.Logs.{IsLogged};
-ghost use Rattle.word_homes.specs.Puts.{back_at, change, homes, marked, with_change};
+ghost use Rattle.std.specs.Prelude.{◌≡◌, [], ℕ, Some, OnErr, OnOk, option_map};
+ghost use Rattle.fits.specs.Places.{put};
+ghost use Rattle.fit_tokens.specs.Changes.{back_at, marked, token_of};
+ghost use Rattle.word_homes.specs.Puts.{home_named, homes, name_of};
 
-use indexmap::IndexMap;
+use fit_tokens::{Token, Tokens};
 use prints::Home;
-use sqlite_items::Items;
 use std::alloc::{AllocError, Global};
 use std::marker::Model;
 
-/// A variable's home from here on, and the one before.
-#[derive(Clone, Copy)]
-struct Logged {
-    var: u32,
-    home: Home,
-    before: Home,
-}
-
-/// The home of each variable's first word, seen as what was put since the last mark, and from each mark to the next. What was not put
-/// anywhere is the literal 0.
+/// The home of each variable's first word, with what was put since marks. What was not put anywhere is the literal 0.
 #[derive(Drop)]
 pub struct Homes {
-    log: Items<Logged>,
-    table: IndexMap<u32, Home>,
-    marks: Items<usize>,
+    names: Tokens,
 }
 
 impl Model for Homes {
-    ghost use Rattle.word_homes.specs.Puts.{Known};
+    ghost use Rattle.fit_tokens.specs.Changes.{Known};
 
     ghost Value = { Known };
 
-    ghost use Rattle.std.specs.Prelude.{[]};
-    ghost use Rattle.word_homes.specs.Logs.{known_of, logged_of, marks_of, IsSound};
-
-    ghost view = { λ x. known_of (logged_of x.log) (marks_of x.marks []) };
-
-    ghost invariant = { λ x. IsSound x.log x.table (marks_of x.marks []) };
+    ghost view = { λ x. x.names };
 }
 
 impl Homes {
@@ -46,9 +30,7 @@ impl Homes {
         ensures { result ≡ record { changes = []; saved = [] } }
     {
         Homes {
-            log: Items::new(alloc),
-            table: IndexMap::new(alloc),
-            marks: Items::new(alloc),
+            names: Tokens::new(alloc),
         }
     }
 
@@ -56,24 +38,16 @@ impl Homes {
     pub fn get(&self, var: u32) -> Home
         ensures { result ≡ homes self.now var }
     {
-        match self.table.get(&var) {
-            Some(home) => *home,
-            None => Home::Literal(0),
-        }
+        home_named(self.names.get(var))
     }
 
     /// A variable stands there from here on. Where there is no memory, nothing changes.
     pub fn put(&mut self, var: u32, home: Home) -> Result<(), AllocError>
-        ensures ok { OnOk result (self.new ≡ with_change self.old (change var home)) }
+        ensures ok { OnOk result ((v : ℕ) → homes self.new v ≡ put (homes self.old) var home v) }
+        ensures saved { OnOk result (self.new.saved ≡ self.old.saved) }
         ensures err { OnErr result (self.new ≡ self.old) }
     {
-        let before = self.get(var);
-        self.log.push(Logged { var, home, before })?;
-        if self.table.insert(var, home).is_err() {
-            self.log.pop();
-            return Err(AllocError);
-        }
-        Ok(())
+        self.names.set(var, Some(name_of(home)))
     }
 
     /// From here on what is put can be undone. Where there is no memory, nothing changes.
@@ -81,31 +55,34 @@ impl Homes {
         ensures ok { OnOk result (self.new ≡ marked self.old) }
         ensures err { OnErr result (self.new ≡ self.old) }
     {
-        self.marks.push(self.log.len())?;
-        Ok(())
+        self.names.mark()
     }
 
-    /// Each variable stands where it did at the last mark, which goes; without a mark nothing changes. Takes no memory.
+    /// Each variable stands where it did at the last mark, which goes; without a mark none was put anywhere. Takes no memory.
     pub fn undo(&mut self)
         ensures { self.new ≡ back_at self.old }
     {
-        if let Some(mark) = self.marks.pop() {
-            restore(&mut self.log, &mut self.table, mark);
-        }
+        self.names.undo();
     }
 }
 
-/// Undoes what was put, the last first, until so much is left.
-fn restore(log: &mut Items<Logged>, table: &mut IndexMap<u32, Home>, count: usize)
-    requires { IsLogged log.old table.old }
-    ensures log { log.new ≡ take count log.old }
-    ensures logged { IsLogged log.new table.new }
+/// A literal is kept by its number, a register as the first word of its number.
+fn name_of(home: Home) -> Token
+    ensures { token_of result ≡ name_of home }
 {
-    'each: while log.len() > count {
-        if let Some(last) = log.pop() {
-            if table.insert(last.var, last.before).is_err() {
-                unreachable!();
-            }
-        }
+    match home {
+        Home::Register(register) => Token::Of(register, 0),
+        Home::Literal(number) => Token::Number(number),
+    }
+}
+
+/// Where something stands by its name.
+fn home_named(name: Option<Token>) -> Home
+    ensures { result ≡ home_named (option_map token_of name) }
+{
+    match name {
+        Some(Token::Of(register, _)) => Home::Register(register),
+        Some(Token::Number(number)) => Home::Literal(number),
+        None => Home::Literal(0),
     }
 }

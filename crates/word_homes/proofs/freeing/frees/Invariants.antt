@@ -1,4 +1,4 @@
-use Rattle.std.proofs.Common.{◌≡◌, ◌++◌, ◌-◌, drop}
+use Rattle.std.proofs.Common.{◌≡◌, ◌++◌, drop}
 use Rattle.word_homes.specs.Words.{frees_at}
 use Rattle.word_homes.proofs.freeing.frees.Given as goal
 

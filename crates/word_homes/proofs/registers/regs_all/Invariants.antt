@@ -1,4 +1,4 @@
-use Rattle.std.proofs.Common.{◌≡◌, ◌++◌, ◌-◌, drop}
+use Rattle.std.proofs.Common.{◌≡◌, ◌++◌, drop}
 use Rattle.ownership.specs.Entries.{shapes_of}
 use Rattle.prints.specs.Homes as h
 use Rattle.word_homes.proofs.registers.regs_all.Given as goal

@@ -1,4 +1,4 @@
-use Rattle.std.proofs.Common.{◌≡◌, ◌++◌, ◌-◌, drop}
+use Rattle.std.proofs.Common.{◌≡◌, ◌++◌, drop}
 use Rattle.ownership.specs.Entries.{spots_of}
 use Rattle.word_homes.specs.Words.{homes_words}
 use Rattle.word_homes.proofs.words.args_words.Given as goal
