@@ -2,15 +2,6 @@
 #![tactic(auto)]
 
 mod bodies;
-mod book;
-mod choice;
-mod ends;
-mod forks;
-mod loops;
-mod passing;
-mod plain;
-mod printing;
-mod rows;
 mod walk;
 
 pub use bodies::{Printed, print_all};

@@ -1,25 +1,22 @@
 //! The walk over binds.
 
-use crate::book::Book;
-use crate::choice::{Half, join_sides, learn};
-use crate::ends::{Over, OverSide, close_block, end_side, open_block};
-use crate::forks::{
-    Cut, Going, Gone, close_branch, cut_list, goings, join_par, join_split, open_branch,
-    refuse_branch,
-};
-use crate::loops::{Loop, Starting, Tested, Turn, begin_loop, end_head, end_loop, leave_head};
-use crate::plain::{Calling, print_any, print_apply, print_assert, print_calc, print_use};
-use crate::printing::Printing;
 use facts::Calculation;
 use nres_core::{Arg, FlatBind, FlatBlock, Place, Refusal};
-use ownership::bind;
-use proof_text::ProofLine;
-use rule_forks::{Branch, Fork, Splitting, close_fork, open_par, open_split};
+use print_blocks::{
+    Condition, Forking, Gone, Half, HalfFork, Headed, Joint, Loop, Passing, Starting, Turn,
+    WholeFork, begin_loop, begin_par, begin_split, close_branch, close_choice, end_fork, end_head,
+    end_loop, first_taken, half_choice, half_fork, open_branch, open_choice, open_either,
+    other_taken, whole_fork,
+};
+use print_steps::{
+    Book, Calling, OverSide, Printing, end_side, open_block, print_any, print_apply, print_assert,
+    print_calc, print_use,
+};
+use rule_forks::{Branch, Splitting};
 use rule_steps::Operation;
 use sqlite_items::Items;
-use std::alloc::{AllocError, Global};
+use std::alloc::AllocError;
 use target_code::Instr;
-use word_homes::load;
 
 /// The binds in order, up to the first refusal.
 #[cycle(walk)]
@@ -112,7 +109,11 @@ fn print_bind(
             no,
         } => {
             let half = print_yes(yes, book, printing, code, *place, *test)?;
-            print_no(no, book, printing, code, half, (*place, outs.as_slice()))
+            let joint = Joint {
+                place: *place,
+                outs: outs.as_slice(),
+            };
+            print_no(no, book, printing, code, half, &joint)
         }
         FlatBind::While {
             place,
@@ -129,8 +130,16 @@ fn print_bind(
                 vars: vars.as_slice(),
             };
             let looping = begin_loop(book, printing, code, &starting)?;
-            let headed = print_head(cond.as_slice(), book, printing, looping, *test)?;
-            print_turn(body, book, printing, code, headed, outs.as_slice())
+            let condition = Condition {
+                binds: cond.as_slice(),
+                test: *test,
+            };
+            let headed = print_head(cond.as_slice(), book, printing, looping, &condition)?;
+            let turn = Turn {
+                block: body,
+                outs: outs.as_slice(),
+            };
+            print_turn(body, book, printing, code, headed, &turn)
         }
         FlatBind::Par {
             place,
@@ -138,18 +147,10 @@ fn print_bind(
             left,
             right,
         } => {
-            let opened = open_par(
-                book.alloc,
-                book.names,
-                &printing.rules.context,
-                *place,
-                left,
-                right,
-            )?;
-            printing.lines.push(ProofLine::Par)?;
-            let near = print_left(left, book, printing, opened, None)?;
+            let opened = begin_par(book, printing, *place, left, right)?;
+            let near = print_left(left, book, printing, opened)?;
             let both = print_right(right, book, printing, near)?;
-            end_par(book.alloc, printing, code, outs.as_slice(), both)
+            end_fork(book.alloc, printing, code, outs.as_slice(), both)
         }
         FlatBind::Split {
             place,
@@ -167,20 +168,10 @@ fn print_bind(
                 left_slice: *left_var,
                 right_slice: *right_var,
             };
-            let opened = open_split(
-                book.alloc,
-                book.names,
-                &mut printing.rules.context,
-                &splitting,
-                left,
-                right,
-            )?;
-            let cut = cut_list(printing, code, *list, *at)?;
-            let length = word_homes::behind(cut.offset, 1)?;
-            printing.lines.push(ProofLine::Split(cut.offset, length))?;
-            let near = print_left(left, book, printing, opened, Some(cut))?;
+            let opened = begin_split(book, printing, code, &splitting, *at, (left, right))?;
+            let near = print_left(left, book, printing, opened)?;
             let both = print_right(right, book, printing, near)?;
-            end_split(book.alloc, printing, code, outs.as_slice(), cut, both)
+            end_fork(book.alloc, printing, code, outs.as_slice(), both)
         }
         FlatBind::Either {
             outs,
@@ -188,28 +179,12 @@ fn print_bind(
             right,
             ..
         } => {
-            let lines = printing.lines.len();
-            let made = printing.made.len();
-            let branch = printing.branch;
-            let top = printing.top;
-            printing.lines.push(ProofLine::Left)?;
-            let free = printing.free;
-            match print_side(left, book, printing)? {
-                Ok(side) => {
-                    take_side(book.alloc, printing, code, outs.as_slice(), side)?;
-                    Ok(None)
-                }
-                Err(refusal) => {
-                    drop(refusal);
-                    cut_to(&mut printing.lines, lines);
-                    cut_to(&mut printing.made, made);
-                    printing.branch = branch;
-                    printing.top = top;
-                    printing.free = free;
-                    printing.lines.push(ProofLine::Right)?;
-                    print_other(right, book, printing, code, outs.as_slice())
-                }
+            let tried = open_either(printing)?;
+            let side = print_side(left, book, printing);
+            if first_taken(book.alloc, printing, code, outs.as_slice(), tried, side)? {
+                return Ok(None);
             }
+            print_other(right, book, printing, code, outs.as_slice())
         }
     }
 }
@@ -223,13 +198,8 @@ fn print_other(
     code: &mut Items<Instr>,
     outs: &[u32],
 ) -> Result<Option<Refusal>, AllocError> {
-    match print_side(block, book, printing)? {
-        Ok(side) => {
-            take_side(book.alloc, printing, code, outs, side)?;
-            Ok(None)
-        }
-        Err(refusal) => Ok(Some(refusal)),
-    }
+    let side = print_side(block, book, printing);
+    other_taken(book.alloc, printing, code, outs, side)
 }
 
 /// A block that is one of two sides. What is known is left as it was.
@@ -239,15 +209,10 @@ fn print_side(
     book: &Book,
     printing: &mut Printing,
 ) -> Result<Result<OverSide, Refusal>, AllocError> {
-    let mut code = Items::new(book.alloc);
     let begun = open_block(printing)?;
-    match print_binds(block.binds.as_slice(), book, printing, &mut code)? {
-        Some(refusal) => {
-            close_block(printing, begun);
-            Ok(Err(refusal))
-        }
-        None => end_side(book, printing, begun, block, code),
-    }
+    let mut code = Items::new(book.alloc);
+    let said = print_binds(block.binds.as_slice(), book, printing, &mut code);
+    end_side(book, printing, begun, block, said, code)
 }
 
 /// The first side of `if`, in which its test holds.
@@ -260,22 +225,9 @@ fn print_yes(
     place: Place,
     test: Arg,
 ) -> Result<Result<Half, Refusal>, AllocError> {
-    let loaded = load(code, printing.free, printing.home(test))?;
-    printing.free = loaded.free;
-    let line = printing.lines.len();
-    printing.lines.push(ProofLine::Other)?;
-    let mark = learn(book.alloc, printing, place, test)?;
-    let side = print_side(block, book, printing)?;
-    printing.rules.facts.leave(mark);
-    printing.free = loaded.free;
-    match side {
-        Ok(yes) => Ok(Ok(Half {
-            test: loaded.reg,
-            line,
-            yes,
-        })),
-        Err(refusal) => Ok(Err(refusal)),
-    }
+    let tested = open_choice(book.alloc, printing, code, place, test)?;
+    let side = print_side(block, book, printing);
+    half_choice(printing, tested, side)
 }
 
 /// The second side of `if`, where the first one passed, and the bind's results.
@@ -286,16 +238,13 @@ fn print_no(
     printing: &mut Printing,
     code: &mut Items<Instr>,
     half: Result<Half, Refusal>,
-    joint: (Place, &[u32]),
+    joint: &Joint,
 ) -> Result<Option<Refusal>, AllocError> {
     match half {
-        Ok(half) => match print_side(block, book, printing)? {
-            Ok(no) => {
-                let (place, outs) = joint;
-                join_sides(book, printing, code, place, outs, half, no)
-            }
-            Err(refusal) => Ok(Some(refusal)),
-        },
+        Ok(half) => {
+            let side = print_side(block, book, printing);
+            close_choice(book, printing, code, joint, half, side)
+        }
         Err(refusal) => Ok(Some(refusal)),
     }
 }
@@ -307,21 +256,13 @@ fn print_head(
     book: &Book,
     printing: &mut Printing,
     looping: Result<Loop, Refusal>,
-    test: Arg,
-) -> Result<Result<(Loop, Tested), Refusal>, AllocError> {
+    condition: &Condition,
+) -> Result<Result<Headed, Refusal>, AllocError> {
     match looping {
         Ok(looping) => {
             let mut code = Items::new(book.alloc);
-            match print_binds(binds, book, printing, &mut code)? {
-                None => {
-                    let tested = end_head(book, printing, &looping, binds, test, code)?;
-                    Ok(Ok((looping, tested)))
-                }
-                Some(refusal) => {
-                    leave_head(printing, looping.begun);
-                    Ok(Err(refusal))
-                }
-            }
+            let said = print_binds(binds, book, printing, &mut code);
+            end_head(book, printing, looping, condition, said, code)
         }
         Err(refusal) => Ok(Err(refusal)),
     }
@@ -334,22 +275,14 @@ fn print_turn(
     book: &Book,
     printing: &mut Printing,
     code: &mut Items<Instr>,
-    headed: Result<(Loop, Tested), Refusal>,
-    outs: &[u32],
+    headed: Result<Headed, Refusal>,
+    turn: &Turn,
 ) -> Result<Option<Refusal>, AllocError> {
     match headed {
-        Ok((looping, tested)) => {
+        Ok(headed) => {
             let mut body = Items::new(book.alloc);
-            match print_binds(block.binds.as_slice(), book, printing, &mut body)? {
-                None => {
-                    let turn = Turn { block, outs };
-                    end_loop(book, printing, code, looping, tested, &turn, body)
-                }
-                Some(refusal) => {
-                    close_block(printing, looping.begun);
-                    Ok(Some(refusal))
-                }
-            }
+            let said = print_binds(block.binds.as_slice(), book, printing, &mut body);
+            end_loop(book, printing, code, headed, turn, (said, body))
         }
         Err(refusal) => Ok(Some(refusal)),
     }
@@ -361,17 +294,19 @@ fn print_left(
     block: &FlatBlock,
     book: &Book,
     printing: &mut Printing,
-    opened: Result<Fork, Refusal>,
-    cut: Option<Cut>,
-) -> Result<Result<(Fork, Gone, Going), Refusal>, AllocError> {
+    opened: Result<Forking, Refusal>,
+) -> Result<Result<HalfFork, Refusal>, AllocError> {
     match opened {
-        Ok(fork) => {
+        Ok(forking) => {
+            let Forking {
+                fork,
+                left,
+                right,
+                cut,
+            } = forking;
             let mut fork = fork;
-            let (near, far) = goings(book.alloc, printing, &fork, cut)?;
-            match print_branch(block, book, printing, &mut fork.left, near)? {
-                Ok(gone) => Ok(Ok((fork, gone, far))),
-                Err(refusal) => Ok(Err(refusal)),
-            }
+            let gone = print_branch(block, book, printing, &mut fork.left, left);
+            half_fork(fork, right, cut, gone)
         }
         Err(refusal) => Ok(Err(refusal)),
     }
@@ -383,15 +318,19 @@ fn print_right(
     block: &FlatBlock,
     book: &Book,
     printing: &mut Printing,
-    near: Result<(Fork, Gone, Going), Refusal>,
-) -> Result<Result<(Fork, Gone, Gone), Refusal>, AllocError> {
-    match near {
-        Ok((fork, left, far)) => {
+    half: Result<HalfFork, Refusal>,
+) -> Result<Result<WholeFork, Refusal>, AllocError> {
+    match half {
+        Ok(half) => {
+            let HalfFork {
+                fork,
+                left,
+                right,
+                cut,
+            } = half;
             let mut fork = fork;
-            match print_branch(block, book, printing, &mut fork.right, far)? {
-                Ok(right) => Ok(Ok((fork, left, right))),
-                Err(refusal) => Ok(Err(refusal)),
-            }
+            let gone = print_branch(block, book, printing, &mut fork.right, right);
+            whole_fork(fork, left, cut, gone)
         }
         Err(refusal) => Ok(Err(refusal)),
     }
@@ -404,86 +343,10 @@ fn print_branch(
     book: &Book,
     printing: &mut Printing,
     branch: &mut Branch,
-    going: Going,
+    passing: Passing,
 ) -> Result<Result<Gone, Refusal>, AllocError> {
-    let mut going = going;
+    let outside = open_branch(book.alloc, printing, branch, passing)?;
     let mut code = Items::new(book.alloc);
-    let outside = open_branch(printing, branch, &mut going, book.alloc)?;
-    match print_binds(block.binds.as_slice(), book, printing, &mut code)? {
-        Some(refusal) => {
-            refuse_branch(printing, branch, outside);
-            Ok(Err(refusal))
-        }
-        None => close_branch(book, printing, branch, going, outside, block, code),
-    }
-}
-
-/// What is left of a list up to a length.
-fn cut_to<T: Drop>(items: &mut Items<T>, count: usize) {
-    'each: while items.len() > count {
-        drop(items.pop());
-    }
-}
-
-/// The side that was taken: what it left over is freed, what went in it is gone, and its results have further names.
-fn take_side(
-    alloc: Global,
-    printing: &mut Printing,
-    code: &mut Items<Instr>,
-    outs: &[u32],
-    side: OverSide,
-) -> Result<(), AllocError> {
-    let OverSide { over, side } = side;
-    let Over {
-        code: own,
-        homes,
-        left,
-        free,
-        ..
-    } = over;
-    code.append(own)?;
-    word_homes::frees(code, left.as_slice())?;
-    printing.rules.context.fall(side.went.as_slice())?;
-    let shapes = ownership::shapes(alloc, side.results.as_slice())?;
-    bind(&mut printing.rules.context, outs, shapes.as_slice())?;
-    printing.alias(outs, homes.as_slice())?;
-    printing.free = free;
-    Ok(())
-}
-
-/// Both branches of `par` are over, if they are.
-fn end_par(
-    alloc: Global,
-    printing: &mut Printing,
-    code: &mut Items<Instr>,
-    outs: &[u32],
-    both: Result<(Fork, Gone, Gone), Refusal>,
-) -> Result<Option<Refusal>, AllocError> {
-    match both {
-        Ok((fork, left, right)) => {
-            let refused = close_fork(alloc, &mut printing.rules.context, outs, Ok(fork))?;
-            join_par(alloc, printing, code, outs, left, right)?;
-            Ok(refused)
-        }
-        Err(refusal) => Ok(Some(refusal)),
-    }
-}
-
-/// Both branches of `split` are over, if they are.
-fn end_split(
-    alloc: Global,
-    printing: &mut Printing,
-    code: &mut Items<Instr>,
-    outs: &[u32],
-    cut: Cut,
-    both: Result<(Fork, Gone, Gone), Refusal>,
-) -> Result<Option<Refusal>, AllocError> {
-    match both {
-        Ok((fork, left, right)) => {
-            let refused = close_fork(alloc, &mut printing.rules.context, outs, Ok(fork))?;
-            join_split(alloc, printing, code, outs, cut, (left, right))?;
-            Ok(refused)
-        }
-        Err(refusal) => Ok(Some(refusal)),
-    }
+    let said = print_binds(block.binds.as_slice(), book, printing, &mut code);
+    close_branch(book, printing, branch, block, outside, (said, code))
 }

@@ -1,11 +1,10 @@
 //! The procedures of the library that a program calls.
 
 use indexmap::IndexMap;
-use sqlite_items::Items;
 use std::alloc::{AllocError, Global};
 use target_code::{Code, Instr, Name, Proc};
 
-/// A library, with those of its procedures that are called.
+/// A library, with those of its procedures that are called, and those of them whose own calls were not looked at yet.
 #[derive(Drop)]
 pub(crate) struct Called<'a> {
     numbers: IndexMap<&'a [u8], usize>,
@@ -18,11 +17,9 @@ impl<'a> Called<'a> {
     pub(crate) fn new(alloc: Global, library: &'a [Proc]) -> Result<Called<'a>, AllocError> {
         let mut numbers = IndexMap::new(alloc);
         let mut wanted = Vec::new(alloc);
-        let mut number = 0;
-        'each: for proc in library {
+        'each: for (number, proc) in library.iter().enumerate() {
             numbers.insert(proc.name.bytes(), number).or(Err(AllocError))?;
             wanted.push(false)?;
-            number += 1;
         }
         Ok(Called {
             numbers,
@@ -31,12 +28,14 @@ impl<'a> Called<'a> {
         })
     }
 
-    /// A name is called.
+    /// A name is called. A procedure is opened where it is called first, and never again.
     fn call(&mut self, name: &Name) -> Result<(), AllocError> {
         if let Some(number) = self.numbers.get(name.bytes()).copied() {
-            if !self.wanted[number] {
-                self.wanted[number] = true;
-                self.open.push(number)?;
+            if let Some(wanted) = self.wanted.get_mut(number) {
+                if !*wanted {
+                    *wanted = true;
+                    self.open.push(number)?;
+                }
             }
         }
         Ok(())
@@ -44,7 +43,7 @@ impl<'a> Called<'a> {
 
     /// What code calls, inner code too.
     #[cycle(calls)]
-    pub(crate) fn code(&mut self, code: &Code) -> Result<(), AllocError> {
+    fn code(&mut self, code: &Code) -> Result<(), AllocError> {
         'each: for instr in code.list.as_slice() {
             self.instr(instr)?;
         }
@@ -67,10 +66,25 @@ impl<'a> Called<'a> {
         }
     }
 
-    /// What those call that are called.
+    /// What procedures call.
+    pub(crate) fn procs(&mut self, procs: &[Proc]) -> Result<(), AllocError> {
+        'each: for proc in procs {
+            self.code(&proc.code)?;
+        }
+        Ok(())
+    }
+
+    /// What those of the library call that are called. As each is opened once, there are no more rounds than procedures.
     pub(crate) fn close(&mut self, library: &[Proc]) -> Result<(), AllocError> {
-        'each: while let Some(number) = self.open.pop() {
-            self.code(&library[number].code)?;
+        'each: for _ in 0..library.len() {
+            match self.open.pop() {
+                Some(number) => {
+                    if let Some(proc) = library.get(number) {
+                        self.code(&proc.code)?;
+                    }
+                }
+                None => return Ok(()),
+            }
         }
         Ok(())
     }

@@ -39,7 +39,7 @@ fn row_bound(made: Option<Rep>, entries: &[Entry]) -> Option<u32> {
 }
 
 /// The words of a row's arguments, behind the bound where there is one.
-pub(crate) fn row_words(
+pub fn row_words(
     alloc: Global,
     made: Option<Rep>,
     homes: &[Home],
@@ -54,7 +54,7 @@ pub(crate) fn row_words(
 }
 
 /// What variables are in.
-pub(crate) fn var_shapes(
+pub fn var_shapes(
     alloc: Global,
     context: &Context,
     vars: &[u32],
@@ -68,6 +68,6 @@ pub(crate) fn var_shapes(
 }
 
 /// The name of a procedure of the library.
-pub(crate) fn lib_word(alloc: Global, name: LibName) -> Result<Name, AllocError> {
+pub fn lib_word(alloc: Global, name: LibName) -> Result<Name, AllocError> {
     Name::new(alloc, lib_names::lib_name(name)).or(Err(AllocError))
 }

@@ -3,8 +3,9 @@
 use crate::book::{Book, sig_in};
 use crate::printing::Printing;
 use crate::rows::{lib_word, row_words, var_shapes};
+use crate::titles::{Title, name_of};
 use facts::Calculation;
-use nres_core::{Arg, FlatBind, Place, Refusal, Row, RowCode};
+use nres_core::{Arg, FlatBind, LibName, Place, Refusal, Row, RowCode};
 use ownership::{Entry, Shape, bind, looked_up};
 use prints::Home;
 use proc_rules::{Sig, call_shapes, lists, take_call};
@@ -14,10 +15,10 @@ use rule_steps::{Operation, apply, assert_step, calculate, choose, refuse, reps}
 use sqlite_items::Items;
 use std::alloc::{AllocError, Global};
 use target_code::{Instr, Name};
-use word_homes::{args_words, behind, first_word_at, load, loads, regs_all};
+use word_homes::{behind, first_word_at, load, loads, regs_all};
 
 /// A calculation.
-pub(crate) fn print_calc(
+pub fn print_calc(
     printing: &mut Printing,
     code: &mut Items<Instr>,
     calculation: Calculation,
@@ -42,7 +43,7 @@ pub(crate) fn print_calc(
 }
 
 /// Any number below another: the lower one.
-pub(crate) fn print_any(
+pub fn print_any(
     printing: &mut Printing,
     code: &mut Items<Instr>,
     out: u32,
@@ -57,7 +58,7 @@ pub(crate) fn print_any(
 }
 
 /// A test that holds: nothing is printed for it.
-pub(crate) fn print_assert(
+pub fn print_assert(
     alloc: Global,
     printing: &mut Printing,
     inner: &[FlatBind],
@@ -67,7 +68,7 @@ pub(crate) fn print_assert(
 }
 
 /// An operation.
-pub(crate) fn print_apply(
+pub fn print_apply(
     book: &Book,
     printing: &mut Printing,
     code: &mut Items<Instr>,
@@ -77,20 +78,34 @@ pub(crate) fn print_apply(
     let kinds = reps(book.alloc, entries.as_slice())?;
     let row = row_of(operation.op, kinds.as_slice(), operation.made);
     drop(kinds);
-    let refused = apply(book.alloc, book.names, &mut printing.rules, operation)?;
-    match (refused, row) {
-        (None, Some(row)) => {
-            print_row(
+    match apply(book.alloc, book.names, &mut printing.rules, operation)? {
+        Some(refusal) => Ok(Some(refusal)),
+        None => {
+            print_met(
                 book.alloc,
                 printing,
                 code,
                 operation,
                 entries.as_slice(),
-                &row,
+                row,
             )?;
             Ok(None)
         }
-        (refused, _) => Ok(refused),
+    }
+}
+
+/// An operation that passes, with the row that it meets.
+fn print_met(
+    alloc: Global,
+    printing: &mut Printing,
+    code: &mut Items<Instr>,
+    operation: &Operation,
+    entries: &[Entry],
+    row: Option<Row>,
+) -> Result<(), AllocError> {
+    match row {
+        Some(row) => print_row(alloc, printing, code, operation, entries, row.code),
+        None => Ok(()),
     }
 }
 
@@ -101,10 +116,10 @@ fn print_row(
     code: &mut Items<Instr>,
     operation: &Operation,
     entries: &[Entry],
-    row: &Row,
+    row: RowCode,
 ) -> Result<(), AllocError> {
     let homes = printing.homes(alloc, operation.args)?;
-    match row.code {
+    match row {
         RowCode::Register(word) => {
             let home = first_word_at(homes.as_slice(), word as usize)?;
             printing.alias(operation.outs, &[home])?;
@@ -112,21 +127,33 @@ fn print_row(
         }
         RowCode::Proc(name) => {
             let words = row_words(alloc, operation.made, homes.as_slice(), entries)?;
-            let results = var_shapes(alloc, &printing.rules.context, operation.outs)?;
-            let name = lib_word(alloc, name)?;
-            let called = name.copy(alloc)?;
-            print_call(
+            print_lib(
                 alloc,
                 printing,
                 code,
-                called,
+                operation.outs,
+                name,
                 words.as_slice(),
-                results.as_slice(),
-            )?;
-            bind_results(printing, operation.outs, results.as_slice())?;
-            printing.lines.push(ProofLine::Row(name))
+            )
         }
     }
+}
+
+/// A call of a procedure of the library.
+fn print_lib(
+    alloc: Global,
+    printing: &mut Printing,
+    code: &mut Items<Instr>,
+    outs: &[u32],
+    name: LibName,
+    words: &[Home],
+) -> Result<(), AllocError> {
+    let results = var_shapes(alloc, &printing.rules.context, outs)?;
+    let called = lib_word(alloc, name)?;
+    print_call(alloc, printing, code, called, words, results.as_slice())?;
+    bind_results(printing, outs, results.as_slice())?;
+    let line = lib_word(alloc, name)?;
+    printing.lines.push(ProofLine::Row(line))
 }
 
 /// A call on words, whose results come to the first free registers behind those that literals took.
@@ -138,14 +165,31 @@ fn print_call(
     words: &[Home],
     results: &[Shape],
 ) -> Result<(), AllocError> {
+    match call_registers(alloc, printing, code, words, results) {
+        Ok((args, to)) => code.push(Instr::Call {
+            to,
+            proc: name,
+            args,
+        }),
+        Err(error) => {
+            drop(name);
+            Err(error)
+        }
+    }
+}
+
+/// The registers of a call's arguments, and of its results.
+fn call_registers(
+    alloc: Global,
+    printing: &mut Printing,
+    code: &mut Items<Instr>,
+    words: &[Home],
+    results: &[Shape],
+) -> Result<(Items<u32>, Items<u32>), AllocError> {
     let loaded = loads(alloc, code, printing.free, words)?;
     printing.free = loaded.free;
     let to = regs_all(alloc, loaded.free, results)?;
-    code.push(Instr::Call {
-        to,
-        proc: name,
-        args: loaded.regs,
-    })
+    Ok((loaded.regs, to))
 }
 
 /// The results of what was called last stand in the first free registers.
@@ -160,7 +204,7 @@ fn bind_results(
 
 /// A call of the procedure of this number.
 #[derive(Clone, Copy)]
-pub(crate) struct Calling<'a> {
+pub struct Calling<'a> {
     /// The place.
     pub place: Place,
     /// The variables of the results.
@@ -172,7 +216,7 @@ pub(crate) struct Calling<'a> {
 }
 
 /// A call of a procedure of the text.
-pub(crate) fn print_use(
+pub fn print_use(
     book: &Book,
     printing: &mut Printing,
     code: &mut Items<Instr>,
@@ -186,17 +230,14 @@ pub(crate) fn print_use(
         sig,
         entries.as_slice(),
     )? {
-        Some(fault) => {
-            let refusal = refuse(
-                book.alloc,
-                book.names,
-                calling.place,
-                b"call",
-                entries.as_slice(),
-                fault,
-            )?;
-            Ok(Some(refusal))
-        }
+        Some(fault) => Ok(Some(refuse(
+            book.alloc,
+            book.names,
+            calling.place,
+            b"call",
+            entries.as_slice(),
+            fault,
+        )?)),
         None => {
             print_taken(book.alloc, printing, code, calling, sig, entries.as_slice())?;
             Ok(None)
@@ -215,36 +256,32 @@ fn print_taken(
 ) -> Result<(), AllocError> {
     match sig {
         Some(sig) => {
-            let lists = lists(alloc, sig.params, entries)?;
-            let results = call_shapes(alloc, sig.outs, lists.as_slice())?;
-            bind(
-                &mut printing.rules.context,
-                calling.outs,
-                results.as_slice(),
-            )?;
-            let homes = printing.homes(alloc, calling.args)?;
-            let mut words = Items::new(alloc);
-            args_words(&mut words, homes.as_slice(), entries)?;
-            let name = numbered(alloc, b'p', calling.fun)?;
-            print_call(
-                alloc,
-                printing,
-                code,
-                name,
-                words.as_slice(),
-                results.as_slice(),
-            )?;
-            bind_results(printing, calling.outs, results.as_slice())?;
-            printing.lines.push(ProofLine::Use)
+            let results = results_of(alloc, &sig, entries)?;
+            print_sure(alloc, printing, code, calling, entries, results.as_slice())
         }
         None => Ok(()),
     }
 }
 
-/// The name of the procedure of this number, counted from 0: a letter, and the number from 1.
-pub(crate) fn numbered(alloc: Global, letter: u8, number: u32) -> Result<Name, AllocError> {
-    let mut bytes = Vec::new(alloc);
-    bytes.push(letter)?;
-    target_code::push_number(&mut bytes, u64::from(number) + 1)?;
-    Name::new(alloc, bytes.as_slice()).or(Err(AllocError))
+/// What the results of a call are in.
+fn results_of(alloc: Global, sig: &Sig, entries: &[Entry]) -> Result<Items<Shape>, AllocError> {
+    let lists = lists(alloc, sig.params, entries)?;
+    call_shapes(alloc, sig.outs, lists.as_slice())
+}
+
+/// A call whose results are in these.
+fn print_sure(
+    alloc: Global,
+    printing: &mut Printing,
+    code: &mut Items<Instr>,
+    calling: &Calling,
+    entries: &[Entry],
+    results: &[Shape],
+) -> Result<(), AllocError> {
+    bind(&mut printing.rules.context, calling.outs, results)?;
+    let words = printing.words(alloc, calling.args, entries)?;
+    let name = name_of(alloc, Title::Procedure(calling.fun))?;
+    print_call(alloc, printing, code, name, words.as_slice(), results)?;
+    bind_results(printing, calling.outs, results)?;
+    printing.lines.push(ProofLine::Use)
 }

@@ -8,7 +8,7 @@ use target_code::Name;
 
 /// The names of the variables, and the procedures.
 #[derive(Clone, Copy)]
-pub(crate) struct Book<'a> {
+pub struct Book<'a> {
     /// Where memory is taken.
     pub alloc: Global,
     /// The names.
@@ -18,7 +18,7 @@ pub(crate) struct Book<'a> {
 }
 
 /// What a procedure takes and gives.
-pub(crate) fn sig_in<'a>(book: &Book<'a>, fun: u32) -> Option<Sig<'a>> {
+pub fn sig_in<'a>(book: &Book<'a>, fun: u32) -> Option<Sig<'a>> {
     match at(book.funs, fun as usize) {
         Some(fun) => Some(sig_of(fun)),
         None => None,
