@@ -18,7 +18,9 @@ impl<'a> Called<'a> {
         let mut numbers = IndexMap::new(alloc);
         let mut wanted = Vec::new(alloc);
         'each: for (number, proc) in library.iter().enumerate() {
-            numbers.insert(proc.name.bytes(), number).or(Err(AllocError))?;
+            numbers
+                .insert(proc.name.bytes(), number)
+                .or(Err(AllocError))?;
             wanted.push(false)?;
         }
         Ok(Called {

@@ -9,7 +9,7 @@ use proof_text::ProofLine;
 use rule_table::library;
 use sqlite_items::Items;
 use std::alloc::{AllocError, Global};
-use target_code::{InParam, Proc, Program};
+use target_code::{InParam, Proc, Program, Rep};
 
 /// A program, with the lines of its derivation.
 #[derive(Drop)]
@@ -38,24 +38,90 @@ fn whole(alloc: Global, flat: &Flat, printed: Printed) -> Result<Translation, Al
     ensures outs { IfOk result (λ x. x.program.outs ≡ flat.now.shown) }
 {
     let Printed { own, made, lines } = printed;
+    match all_procs(alloc, own, made) {
+        Ok(procs) => program_of(alloc, flat, procs, lines),
+        Err(error) => {
+            drop(lines);
+            Err(error)
+        }
+    }
+}
+
+/// The program of these procedures, with a derivation.
+fn program_of(
+    alloc: Global,
+    flat: &Flat,
+    procs: Items<Proc>,
+    lines: Items<ProofLine>,
+) -> Result<Translation, AllocError>
+    ensures ins { IfOk result (λ x. x.program.ins ≡ flat.now.params) }
+    ensures outs { IfOk result (λ x. x.program.outs ≡ flat.now.shown) }
+{
+    match header(alloc, flat) {
+        Ok((ins, outs)) => Ok(Translation {
+            program: Program { ins, outs, procs },
+            lines,
+        }),
+        Err(error) => {
+            drop((procs, lines));
+            Err(error)
+        }
+    }
+}
+
+/// What a program takes and shows: what the specification does.
+fn header(alloc: Global, flat: &Flat) -> Result<(Items<InParam>, Items<Rep>), AllocError>
+    ensures ins { IfOk result (λ both. both.0 ≡ flat.now.params) }
+    ensures outs { IfOk result (λ both. both.1 ≡ flat.now.shown) }
+{
+    let ins = params(alloc, flat.params.as_slice())?;
+    match Items::from_slice(alloc, flat.shown.as_slice()) {
+        Ok(outs) => Ok((ins, outs)),
+        Err(error) => {
+            drop(ins);
+            Err(error)
+        }
+    }
+}
+
+/// The procedures of the text, the branches, and what they call of the library.
+fn all_procs(
+    alloc: Global,
+    own: Items<Proc>,
+    made: Items<Proc>,
+) -> Result<Items<Proc>, AllocError> {
     let mut procs = own;
-    procs.append(made)?;
-    add_library(alloc, &mut procs)?;
-    Ok(Translation {
-        program: Program {
-            ins: params(alloc, flat.params.as_slice())?,
-            outs: Items::from_slice(alloc, flat.shown.as_slice())?,
-            procs,
-        },
-        lines,
-    })
+    match procs.append(made) {
+        Ok(()) => with_library(alloc, procs),
+        Err(error) => {
+            drop(procs);
+            Err(error)
+        }
+    }
+}
+
+/// With what they call of the library.
+fn with_library(alloc: Global, procs: Items<Proc>) -> Result<Items<Proc>, AllocError> {
+    let mut procs = procs;
+    match add_library(alloc, &mut procs) {
+        Ok(()) => Ok(procs),
+        Err(error) => {
+            drop(procs);
+            Err(error)
+        }
+    }
 }
 
 /// The procedures of the library that are called come behind those that call them.
 fn add_library(alloc: Global, procs: &mut Items<Proc>) -> Result<(), AllocError> {
     let library = library(alloc)?;
-    let wanted = wanted(alloc, procs.as_slice(), library.as_slice())?;
-    add_called(procs, library, wanted.as_slice())
+    match wanted(alloc, procs.as_slice(), library.as_slice()) {
+        Ok(wanted) => add_called(procs, library, wanted.as_slice()),
+        Err(error) => {
+            drop(library);
+            Err(error)
+        }
+    }
 }
 
 /// Which procedures of the library are called.
@@ -81,17 +147,24 @@ fn add_called(
     Ok(())
 }
 
-/// The parameters once more.
-fn params(alloc: Global, params: &[InParam]) -> Result<Items<InParam>, AllocError>
-    ensures { IfOk result (λ ins. ins ≡ params.now) }
+/// The same parameter.
+fn param(alloc: Global, param: &InParam) -> Result<InParam, AllocError>
+    ensures { IfOk result (λ same. same ≡ param.now) }
 {
-    let mut ins = Items::new(alloc);
-    'each: for param in params {
-        ins.push(InParam {
-            name: param.name.copy(alloc)?,
-            rep: param.rep,
-            kept: param.kept,
-        })?;
+    Ok(InParam {
+        name: param.name.copy(alloc)?,
+        rep: param.rep,
+        kept: param.kept,
+    })
+}
+
+/// The same parameters.
+fn params(alloc: Global, list: &[InParam]) -> Result<Items<InParam>, AllocError>
+    ensures { IfOk result (λ same. same ≡ list.now) }
+{
+    let mut same = Items::new(alloc);
+    'each: for item in list {
+        same.push(param(alloc, item)?)?;
     }
-    Ok(ins)
+    Ok(same)
 }
