@@ -9,7 +9,7 @@ use Rattle.nres_core.specs.declared.value.Value.TheVariants as v
 use Rattle.nres_print.proofs.Originals.{AreFine, tokens_fine}
 use Rattle.scopes.specs.Names.{found_in, same_name}
 use Rattle.target_code.specs.declared.tree.InParam.{InParam}
-use Rattle.inputs.specs.Inputs.{Fault, Given, Wants, and_then, by_representations, chosen, chosen_of, taken, unless, value_fault}
+use Rattle.inputs.specs.Inputs.{Fault, Given, Wants, and_then, by_representations, chosen, chosen_of, program_inputs, taken, unless, value_fault}
 use Rattle.inputs.specs.declared.refusal.InputFault.{InputFault}
 use Rattle.inputs.specs.declared.refusal.InputFault.TheVariants as fault
 use Rattle.image_laws.specs.Laws.{IsOfWords, IsSmallValue}
@@ -69,7 +69,7 @@ abbrev pub AllHeld : List With → Type 0
 AllHeld [] = Unit {0}
 AllHeld (w ∷ ws) = (IsOfWords w.value × IsSmallValue w.value) × AllHeld ws
 
-lines_held : {ts : List Tok} {ws : List With} → AreWiths ts ws → AreFine ts → length ts < 2 ^ 32 → AllHeld ws
+pub lines_held : {ts : List Tok} {ws : List With} → AreWiths ts ws → AreFine ts → length ts < 2 ^ 32 → AllHeld ws
 lines_held AreWiths.no_with f lt = tt
 lines_held (AreWiths.gives {ts = ts} d more) f lt =
     let h = value_left d f.1.1.1 in
@@ -129,15 +129,17 @@ chosen_held vs (n ∷ ns) us e all = by (found_in vs n.0) refl (chosen vs ns) re
         let z : Ok (x ∷ xs) ≡ Ok us = subst (λ q. and_then n.0 (Some x) q ≡ Ok us) c a in
         subst AreHeld (same (x ∷ xs) us z) (all n.0 x o, rest xs c)
 
+pub from_lines : (ws : List With) (ins : List InParam) (us : List Value) → AllHeld ws → program_inputs ins ws ≡ Ok us → AreHeld us
+from_lines ws ins us held e = by (taken (by_representations ins) [] ws) refl
+  where
+    by : (r : Result Given Fault) → taken (by_representations ins) [] ws ≡ r → AreHeld us
+    by (Ok vs) q =
+        let c : chosen vs (by_representations ins) ≡ Ok us = subst (λ r. chosen_of r (by_representations ins) ≡ Ok us) q e in
+        chosen_held vs (by_representations ins) us c (taken_held (by_representations ins) [] ws vs q held (λ x y z. absurd (let w : ⊥ = cc z in w)))
+    by (Err g) q =
+        let z : Err g ≡ Ok us = subst (λ r. chosen_of r (by_representations ins) ≡ Ok us) q e in absurd (let y : ⊥ = cc z in y)
+
 pub given_held : GivenValuesAreHeld
 given_held line text ws ins us lt t e =
     let few = few_tokens text (record { line = line; column = 1 }) t.0 t.1 in
-    let held = lines_held t.2 (tokens_fine text refl t.1) (omega (arith, lt, few)) in
-    by held (taken (by_representations ins) [] ws) refl
-  where
-    by : AllHeld ws → (r : Result Given Fault) → taken (by_representations ins) [] ws ≡ r → AreHeld us
-    by held (Ok vs) q =
-        let c : chosen vs (by_representations ins) ≡ Ok us = subst (λ r. chosen_of r (by_representations ins) ≡ Ok us) q e in
-        chosen_held vs (by_representations ins) us c (taken_held (by_representations ins) [] ws vs q held (λ x y z. absurd (let w : ⊥ = cc z in w)))
-    by held (Err g) q =
-        let z : Err g ≡ Ok us = subst (λ r. chosen_of r (by_representations ins) ≡ Ok us) q e in absurd (let y : ⊥ = cc z in y)
+    from_lines ws ins us (lines_held t.2 (tokens_fine text refl t.1) (omega (arith, lt, few))) e

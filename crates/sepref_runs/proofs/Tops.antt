@@ -22,6 +22,7 @@ use Rattle.run_begins.specs.Beginning.{AreHeld}
 use Rattle.run_begins.proofs.Fitting.{given_fit}
 use Rattle.run_inputs.specs.Placing.{AllFit}
 use Rattle.execution_input.specs.Executions.{IsExecution, NoValuesAt, front_of, rest_of, values_line}
+use Rattle.given_values.proofs.Behind.{spec_held}
 use Rattle.given_values.proofs.Held.{given_held}
 use Rattle.program_run.specs.Ends.{RunMeans}
 use Rattle.replay.specs.declared.answer.ReplayEnd.{ReplayEnd}
@@ -32,7 +33,11 @@ use Rattle.replay_causes.specs.declared.cause.Cause.TheVariants as cause
 use Rattle.sepref_replay.specs.Lines.{text_of}
 use Rattle.sepref_top.proofs.Told.{all_given, gave_at_most}
 use Rattle.sepref_top.specs.CommandWords.{command_of_word, line_of_words, plain, plain_of}
+use Rattle.sepref_top.specs.Making.{IsRunnable, TellsNoProgram}
 use Rattle.sepref_top.specs.Outcome.{longest}
+use Rattle.sepref_top.specs.Texts.{bytes_of as bytes_in}
+use Rattle.sepref_top.specs.declared.answer.Answer.{Answer}
+use Rattle.sepref_top.specs.declared.making.Runnable.{Runnable}
 use Rattle.sepref_top.specs.declared.status.Status.{Status}
 use Rattle.sepref_top.specs.declared.status.Status.TheVariants as calm
 use Rattle.sepref_top.specs.declared.words.Command.{Command}
@@ -40,7 +45,7 @@ use Rattle.sepref_top.specs.declared.words.Command.TheVariants as command
 use Rattle.sepref_top.specs.declared.words.Line.{Line}
 use Rattle.sepref_runs.specs.Calm.{IsRun, IsRunLine, RunsNothing, runs}
 use Rattle.sepref_runs.specs.Replays.{HasFailed, IsAnswered, IsTold, Replayed, status_of_answer, status_of_cause}
-use Rattle.sepref_runs.specs.Runs.{Due, Given, HasResults, Ran, Says, SaysAs, TellsLength, UnlessLost, Went, Wrote, status_of}
+use Rattle.sepref_runs.specs.Runs.{Due, Given, HasResults, HasSpecResults, Ran, Says, SaysAs, SaysRun, TellsLength, UnlessLost, Went, Wrote, status_of}
 use Rattle.sepref_runs.specs.Texts.{TellsInput, TellsUnrun, bytes_of, told_status}
 use Rattle.sepref_runs.specs.declared.telling.Telling.{Telling}
 use Rattle.sepref_runs.specs.declared.status.RunStatus.{RunStatus}
@@ -96,13 +101,35 @@ module _ (l : Line) where
   says_due (Says.no_lines q r w) = tt
   says_due (Says.execution T ws e g) = given_due g
 
+  unmade_due : (text : List ℕ) (s : Status) (output : List ℕ) → TellsNoProgram text s output → IsDue (status.Calm s)
+  unmade_due text (calm.Syntax q) output t = tt
+  unmade_due text (calm.TooDeep q) output t = tt
+  unmade_due text calm.Type_ output t = tt
+  unmade_due text calm.NoRule output t = tt
+  unmade_due text calm.NotYet output t = tt
+  unmade_due text calm.Done output t = tt
+  unmade_due text calm.Input output t = tt
+  unmade_due text (calm.NotProgram k) output t = tt
+  unmade_due text (calm.Fails k) output t = tt
+  unmade_due text (calm.OutOfTurns k) output t = tt
+  unmade_due text (calm.NoProof k) output t = tt
+  unmade_due text calm.Usage output t = tt
+  unmade_due text calm.TooLong output t = tt
+  unmade_due text calm.ReadFault output t = tt
+  unmade_due text calm.WriteFault output t = absurd t
+  unmade_due text calm.Memory output t = absurd t
+
+  run_due : {text : List ℕ} {s : RunStatus} {output : List ℕ} → SaysRun l text s output → IsDue s
+  run_due {text = text} {output = output} (SaysRun.no_spec_program s t) = unmade_due text s output t
+  run_due (SaysRun.with_program x r g) = given_due g
+
   as_due : (c : Command) (text : List ℕ) (s : RunStatus) (output : List ℕ) → SaysAs c l text s output → IsDue s
   as_due command.Exec text s output a = says_due a
   as_due command.Replay text s output a = subst IsDue (sym a.status_is) (of_cause a.cause_is)
   as_due command.Check text s output a = absurd a
   as_due command.Synth text s output a = absurd a
   as_due command.Eval text s output a = absurd a
-  as_due command.Run text s output a = absurd a
+  as_due command.Run text s output a = run_due a
   as_due command.Verify text s output a = absurd a
 
   pub is_due : {old new : Option (List ℕ)} {s : RunStatus} {output : List ℕ} → Due l old new s output → IsDue s
@@ -164,6 +191,24 @@ module _ (l : Line) where
     with_end (run.HeapFull at len) e m w = absurd (let z : ⊥ = cc e in z)
     with_end (run.Depth path) e m w = absurd (let z : ⊥ = cc e in z)
 
+  module _ (x : Runnable) (us : List Value) (text output : List ℕ) (right : IsRunnable text x) (given : program_inputs x.program.ins x.withs ≡ Ok us) where
+    with_spec_end : (r : RunEnd) → status_of r ≡ status.Calm calm.Done → RunMeans x.program us l.heap l.steps r → output ≡ end_text r → HasSpecResults l text output
+    with_spec_end (run.Values vs) e m w = record { found = x; right = right; values = us; given = given; results = vs; means = m; written = w }
+    with_spec_end (run.NoValue k) e m w = absurd (let z : ⊥ = cc e in z)
+    with_spec_end (run.Stuck spot reason) e m w = absurd (let z : ⊥ = cc e in z)
+    with_spec_end (run.Unowned spot block offset) e m w = absurd (let z : ⊥ = cc e in z)
+    with_spec_end (run.OutOfSteps path) e m w = absurd (let z : ⊥ = cc e in z)
+    with_spec_end (run.HeapFull at len) e m w = absurd (let z : ⊥ = cc e in z)
+    with_spec_end (run.Depth path) e m w = absurd (let z : ⊥ = cc e in z)
+
+  of_made : (x : Runnable) (text : List ℕ) (s : RunStatus) (output : List ℕ) → IsRunnable text x → Given l x.program x.withs s output → s ≡ status.Calm calm.Done → HasSpecResults l text output
+  of_made x text s output i (Given.on_values us g r) e = with_spec_end x us text output i g r.end (sym r.status_is ∙ e) r.means r.written
+  of_made x text s output i (Given.bad_input f g w) e = absurd (let q = same_calm calm.Input calm.Done e in let z : ⊥ = cc q in z)
+
+  of_run_says : (text : List ℕ) (s : RunStatus) (output : List ℕ) → SaysRun l text s output → s ≡ status.Calm calm.Done → HasSpecResults l text output
+  of_run_says text s output (SaysRun.no_spec_program c t) e = absurd (subst (λ (c : Status). TellsNoProgram text c output) (same_calm c calm.Done e) t)
+  of_run_says text s output (SaysRun.with_program x i g) e = of_made x text s output i g e
+
   of_given : {s : RunStatus} {output : List ℕ} (text : List ℕ) (T : Program) (ws : List With) → IsExecution text T ws → Given l T ws s output → s ≡ status.Calm calm.Done → HasResults l text output
   of_given {output = output} text T ws i (Given.on_values us g r) e = with_end T ws us text output i g r.end (sym r.status_is ∙ e) r.means r.written
   of_given text T ws i (Given.bad_input f g w) e = absurd (let q = same_calm calm.Input calm.Done e in let z : ⊥ = cc q in z)
@@ -196,6 +241,9 @@ module _ (l : Line) where
 
   pub done : {old new before after : Option (List ℕ)} {r : RunStatus} → l.command ≡ command.Exec → Wrote (Due l old new) before after r → r ≡ status.Calm calm.Done → Went (HasResults l) old new before after
   done k = done_by (HasResults l) (λ text s output a e. of_says (subst (λ c. SaysAs c l text s output) k a) e)
+
+  pub ran : {old new before after : Option (List ℕ)} {r : RunStatus} → l.command ≡ command.Run → Wrote (Due l old new) before after r → r ≡ status.Calm calm.Done → Went (HasSpecResults l) old new before after
+  ran k = done_by (HasSpecResults l) (λ text s output a e. of_run_says text s output (subst (λ c. SaysAs c l text s output) k a) e)
 
   pub answered : {old new before after : Option (List ℕ)} {r : RunStatus} → l.command ≡ command.Replay → Wrote (Due l old new) before after r → r ≡ status.Calm calm.Done → Went (IsAnswered l.heap) old new before after
   answered k = done_by (IsAnswered l.heap) (λ text s output a e.
@@ -230,6 +278,9 @@ of_none o l n e r = let z : true ≡ false = sym r ∙ n l e in let y : ⊥ = cc
 pub of_exec : (l : Line) → l.command ≡ command.Exec → runs l.command ≡ true
 of_exec l e = ap runs e
 
+pub of_run : (l : Line) → l.command ≡ command.Run → runs l.command ≡ true
+of_run l e = ap runs e
+
 pub of_replay : (l : Line) → l.command ≡ command.Replay → runs l.command ≡ true
 of_replay l e = ap runs e
 
@@ -246,6 +297,12 @@ ready text T ws lt i us e =
     let h = given_held (values_line text) (rest_of text) ws T.ins us short i.values e in
     (h, given_fit T ws us i.program.formed e h)
 
+-- the same of a specification
+pub spec_ready : (text : List ℕ) (x : Runnable) → length text < 2 ^ 32 → IsRunnable text x → (us : List Value) → program_inputs x.program.ins x.withs ≡ Ok us → AreHeld us × AllFit x.program.ins us
+spec_ready text x lt i us e =
+    let h = spec_held text i.spec x.withs x.program.ins us lt i.reads e in
+    (h, given_fit x.program x.withs us i.right.formed e h)
+
 pub of_end_told : {E : Type 0} (l : Line) (T : Program) (us : List Value) (e : RunEnd) → RunMeans T us l.heap l.steps e → (r : Result Telling E)
     → IfOk r (λ t. (t.status ≡ status_of e) × (bytes_of t.text ≡ end_text e)) → IfOk r (λ t. Ran l T us t.status (bytes_of t.text))
 of_end_told l T us e m (Ok t) h = record { end = e; means = m; status_is = h.0; written = h.1 }
@@ -260,6 +317,17 @@ pub of_given_told : {E : Type 0} (l : Line) (text : List ℕ) (T : Program) (ws 
     → IfOk r (λ t. Given l T ws t.status (bytes_of t.text)) → IfOk r (λ t. Says l text t.status (bytes_of t.text))
 of_given_told l text T ws i (Ok t) h = Says.execution T ws i h
 of_given_told l text T ws i (Err x) h = tt
+
+pub of_made_told : {E : Type 0} (l : Line) (text : List ℕ) (x : Runnable) → IsRunnable text x → (ws : List With) → ws ≡ x.withs → (r : Result Telling E)
+    → IfOk r (λ t. Given l x.program ws t.status (bytes_of t.text)) → IfOk r (λ t. SaysRun l text t.status (bytes_of t.text))
+of_made_told l text x i ws w (Ok t) h = SaysRun.with_program x i (subst (λ vs. Given l x.program vs t.status (bytes_of t.text)) w h)
+of_made_told l text x i ws w (Err y) h = tt
+
+pub of_answer_told : {E : Type 0} (l : Line) (text : List ℕ) (a : Answer) → TellsNoProgram text a.status (bytes_in a.text) → (r : Result Telling E)
+    → IfOk r (λ t. (t.status ≡ status.Calm a.status) × (bytes_of t.text ≡ bytes_in a.text)) → IfOk r (λ t. SaysRun l text t.status (bytes_of t.text))
+of_answer_told l text a n (Ok t) h =
+    subst (λ s. SaysRun l text s (bytes_of t.text)) (sym h.0) (SaysRun.no_spec_program a.status (subst (λ bs. TellsNoProgram text a.status bs) (sym h.1) n))
+of_answer_told l text a n (Err y) h = tt
 
 pub of_text_told : {E : Type 0} (l : Line) (old new : Option (List ℕ)) (text : List ℕ) → Consumes old new text → IsAtEnd new → (r : Result Telling E)
     → IfOk r (λ t. SaysAs l.command l text t.status (bytes_of t.text)) → IfOk r (λ t. Due l old new t.status (bytes_of t.text))
@@ -306,6 +374,28 @@ says_said (Says.no_program k r w) = tt
 says_said (Says.no_lines q r w) = tt
 says_said (Says.execution T ws e g) = given_said g
 
+unmade_said : (text : List ℕ) (s : Status) (output : List ℕ) → TellsNoProgram text s output → IsSaid (status.Calm s)
+unmade_said text (calm.Syntax q) output t = tt
+unmade_said text (calm.TooDeep q) output t = tt
+unmade_said text calm.Type_ output t = tt
+unmade_said text calm.NoRule output t = tt
+unmade_said text calm.NotYet output t = tt
+unmade_said text calm.Done output t = tt
+unmade_said text calm.Input output t = tt
+unmade_said text (calm.NotProgram k) output t = tt
+unmade_said text (calm.Fails k) output t = tt
+unmade_said text (calm.OutOfTurns k) output t = tt
+unmade_said text (calm.NoProof k) output t = tt
+unmade_said text calm.Usage output t = tt
+unmade_said text calm.TooLong output t = absurd t
+unmade_said text calm.ReadFault output t = absurd t
+unmade_said text calm.WriteFault output t = tt
+unmade_said text calm.Memory output t = tt
+
+run_said : {l : Line} {text : List ℕ} {s : RunStatus} {output : List ℕ} → SaysRun l text s output → IsSaid s
+run_said {text = text} {output = output} (SaysRun.no_spec_program s t) = unmade_said text s output t
+run_said (SaysRun.with_program x r g) = given_said g
+
 answer_said : (e : ReplayEnd) → IsSaid (status_of_answer e)
 answer_said (end.Race after q r) = tt
 answer_said (end.Stuck after path proc line why) = tt
@@ -330,7 +420,7 @@ as_said command.Replay l text s output a = subst IsSaid (sym a.status_is) (cause
 as_said command.Check l text s output a = absurd a
 as_said command.Synth l text s output a = absurd a
 as_said command.Eval l text s output a = absurd a
-as_said command.Run l text s output a = absurd a
+as_said command.Run l text s output a = run_said a
 as_said command.Verify l text s output a = absurd a
 
 pub told_said : (l : Line) (text : List ℕ) (r : Result Telling AllocError) → IfOk r (λ t. SaysAs l.command l text t.status (bytes_of t.text)) → IsSaid (told_status r)

@@ -16,6 +16,7 @@ use Rattle.sepref_runs.specs.declared.status.RunStatus.TheVariants as run
 -- a command runs programs, or follows a schedule of one
 abbrev pub runs : Command → Bool
 runs command.Exec = true
+runs command.Run = true
 runs command.Replay = true
 runs _ = false
 

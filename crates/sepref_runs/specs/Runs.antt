@@ -1,4 +1,4 @@
--- What `exec` says of an input, and what it writes.
+-- What `exec` and `run` say of an input, and what they write.
 use Rattle.std.specs.Prelude.{◌≡◌, ◌≢◌, ℕ, ◌<◌, ◌≤◌, ◌⊎◌, true, List, length, take, Option, Some, None, Ok, Err}
 use Rattle.std.specs.Io.KnownBytes.{Appends, Consumes, IsAtEnd, Keeps}
 use Rattle.nres_core.specs.declared.place.Place.{Place}
@@ -15,8 +15,11 @@ use Rattle.program_run.specs.declared.end.RunEnd.{RunEnd}
 use Rattle.program_run.specs.declared.end.RunEnd.TheVariants as run
 use Rattle.run_lines.specs.Lines.{end_text}
 use Rattle.sepref_top.specs.InputLines.{input_line}
+use Rattle.sepref_top.specs.Making.{IsRunnable, TellsNoProgram}
 use Rattle.sepref_top.specs.Outcome.{longest}
 use Rattle.sepref_top.specs.Statuses as statuses
+use Rattle.sepref_top.specs.declared.making.Runnable.{Runnable}
+use Rattle.sepref_top.specs.declared.status.Status.{Status}
 use Rattle.sepref_top.specs.declared.status.Status.TheVariants as calm
 use Rattle.sepref_top.specs.declared.words.Command.{Command}
 use Rattle.sepref_top.specs.declared.words.Command.TheVariants as command
@@ -67,10 +70,16 @@ pub data Says (l : Line) (text : List ℕ) : RunStatus → List ℕ → Type 0 w
   no_lines : {output : List ℕ} (q : Place) → NoValuesAt text q → output ≡ statuses.line_of (calm.Syntax q) → Says l text (status.Calm (calm.Syntax q)) output
   execution : {s : RunStatus} {output : List ℕ} (T : Program) (ws : List With) → IsExecution text T ws → Given l T ws s output → Says l text s output
 
+-- the text reads as a typed specification, and a program that is right for it was run on the values behind it; or no program is given for it, and why is told
+pub data SaysRun (l : Line) (text : List ℕ) : RunStatus → List ℕ → Type 0 where
+  no_spec_program : {output : List ℕ} (s : Status) → TellsNoProgram text s output → SaysRun l text (status.Calm s) output
+  with_program : {s : RunStatus} {output : List ℕ} (x : Runnable) → IsRunnable text x → Given l x.program x.withs s output → SaysRun l text s output
+
 -- a command that runs or follows programs says this of a text
 abbrev pub SaysAs : Command → Line → List ℕ → RunStatus → List ℕ → Type 0
 SaysAs command.Exec l text s output = Says l text s output
 SaysAs command.Replay l text s output = Replayed l.heap text s output
+SaysAs command.Run l text s output = SaysRun l text s output
 SaysAs _ l text s output = ⊥
 
 -- ---- what is due, and what went out
@@ -98,6 +107,17 @@ pub record HasResults (l : Line) (text output : List ℕ) : Type 0 where
   pub given : program_inputs program.ins withs ≡ Ok values
   pub results : List Value
   pub means : RunMeans program values l.heap l.steps (run.Values results)
+  pub written : output ≡ result_lines results
+
+-- the text reads as a typed specification with a value for each parameter, and a program that is right for it was run on these: the output is the lines of the
+-- values that its results represent
+pub record HasSpecResults (l : Line) (text output : List ℕ) : Type 0 where
+  pub found : Runnable
+  pub right : IsRunnable text found
+  pub values : List Value
+  pub given : program_inputs found.program.ins found.withs ≡ Ok values
+  pub results : List Value
+  pub means : RunMeans found.program values l.heap l.steps (run.Values results)
   pub written : output ≡ result_lines results
 
 -- what the source gave, up to its end, and what went to the sink meet a condition

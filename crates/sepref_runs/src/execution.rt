@@ -1,4 +1,4 @@
-//! What `exec` writes for an input.
+//! What `exec` and `run` write for an input.
 
 ghost use Rattle.std.specs.Prelude.{◌≡◌, ◌<◌, ◌≤◌, ◌^◌, IfOk, List, length, Ok};
 ghost use Rattle.nres_core.specs.declared.value.Value.{Value as ValueOf};
@@ -6,9 +6,10 @@ ghost use Rattle.target_code.specs.Formed.{Formed};
 ghost use Rattle.inputs.specs.Inputs as rules;
 ghost use Rattle.run_begins.specs.Beginning.{AreHeld};
 ghost use Rattle.run_inputs.specs.Placing.{AllFit};
-ghost use Rattle.sepref_runs.specs.Runs.{Given, Ran, Says, status_of};
+ghost use Rattle.sepref_runs.specs.Runs.{Given, Ran, Says, SaysRun, status_of};
 ghost use Rattle.sepref_runs.specs.Texts.{TellsInput, TellsUnrun, bytes_of};
 ghost use Rattle.run_lines.specs.Lines.{end_text};
+ghost use Rattle.sepref_top.specs.Texts.{bytes_of as bytes_in};
 
 use crate::status::RunStatus;
 use crate::telling::{Telling, Text, input_line, number_line, place_line};
@@ -16,9 +17,10 @@ use execution_input::{Unrun, read_execution};
 use inputs::{InputRefusal, program_inputs};
 use nres_core::{Value, With};
 use program_run::{RunEnd, run_whole};
+use proof_check::Follower;
 use run_lines::push_end;
 use run_stores::RunStore;
-use sepref_top::{Line, Status};
+use sepref_top::{Answer, Line, Status, program_for_text};
 use std::alloc::{AllocError, Global};
 use target_code::Program;
 
@@ -112,5 +114,31 @@ pub fn text_told<S: RunStore + Drop>(
     match read_execution(alloc, text) {
         Ok((program, withs)) => given_told::<S>(alloc, line, &program, withs.as_slice()),
         Err(unrun) => unrun_told(alloc, unrun),
+    }
+}
+
+/// What tells why no program is given for a specification.
+fn answer_told(alloc: Global, answer: &Answer) -> Result<Telling, AllocError>
+    ensures { IfOk result (λ told. (told.status ≡ RunStatus.Calm answer.now.status) × (bytes_of told.text ≡ bytes_in answer.now.text)) }
+{
+    Ok(Telling {
+        status: RunStatus::Calm(answer.status),
+        text: Text::Made(Vec::from_slice(alloc, answer.bytes())?),
+    })
+}
+
+/// What `run` writes for a text, with the heap and the steps of a command line.
+pub fn spec_told<S: RunStore + Drop, F: Follower>(
+    alloc: Global,
+    line: Line,
+    text: &[u8],
+) -> Result<Telling, AllocError>
+    requires short { length text.now < 2 ^ 32 }
+    requires few { line.steps ≤ 2 ^ 62 }
+    ensures { IfOk result (λ told. SaysRun line text.now told.status (bytes_of told.text)) }
+{
+    match program_for_text::<F>(alloc, text)? {
+        Ok(found) => given_told::<S>(alloc, line, &found.program, found.withs.as_slice()),
+        Err(answer) => answer_told(alloc, &answer),
     }
 }

@@ -7,7 +7,7 @@ mod status;
 mod telling;
 mod top;
 
-pub use execution::text_told;
+pub use execution::{spec_told, text_told};
 pub use replaying::schedule_told;
 pub use status::RunStatus;
 pub use telling::{Telling, Text};

@@ -8,10 +8,10 @@ ghost use Rattle.sepref_top.specs.Outcome.{longest};
 ghost use Rattle.sepref_top.specs.declared.words.Line.{Line as LineOf};
 ghost use Rattle.sepref_runs.specs.Calm.{IsCalm, IsRunLine, RunsNothing, runs};
 ghost use Rattle.sepref_runs.specs.Replays.{IsAnswered, IsTold};
-ghost use Rattle.sepref_runs.specs.Runs.{Due, HasResults, SaysAs, TellsLength, UnlessLost, Went, Wrote};
+ghost use Rattle.sepref_runs.specs.Runs.{Due, HasResults, HasSpecResults, SaysAs, TellsLength, UnlessLost, Went, Wrote};
 ghost use Rattle.sepref_runs.specs.Texts.{bytes_of, told_status};
 
-use crate::execution::text_told;
+use crate::execution::{spec_told, text_told};
 use crate::replaying::schedule_told;
 use crate::status::RunStatus;
 use crate::telling::{Telling, Text};
@@ -26,7 +26,7 @@ use std::alloc::{AllocError, Global};
 const LONGEST: u64 = 1_048_576;
 
 /// What a command that runs programs, or follows a schedule of one, writes for a text.
-fn command_told<S: RunStore + Drop>(
+fn command_told<S: RunStore + Drop, F: Follower>(
     alloc: Global,
     line: Line,
     text: &[u8],
@@ -38,15 +38,14 @@ fn command_told<S: RunStore + Drop>(
     match line.command {
         Command::Exec => text_told::<S>(alloc, line, text),
         Command::Replay => schedule_told(alloc, line.heap, text),
+        Command::Run => spec_told::<S, F>(alloc, line, text),
         // No other command comes here.
-        Command::Check | Command::Synth | Command::Eval | Command::Run | Command::Verify => {
-            Err(AllocError)
-        }
+        Command::Check | Command::Synth | Command::Eval | Command::Verify => Err(AllocError),
     }
 }
 
 /// The same for the text that a source gave. A text that is longer is never read whole.
-fn whole_told<S: RunStore + Drop>(
+fn whole_told<S: RunStore + Drop, F: Follower>(
     alloc: Global,
     line: Line,
     text: &[u8],
@@ -57,11 +56,11 @@ fn whole_told<S: RunStore + Drop>(
     if text.len() as u64 > LONGEST {
         return Err(AllocError);
     }
-    command_told::<S>(alloc, line, text)
+    command_told::<S, F>(alloc, line, text)
 }
 
 /// What is due to a command line of such a command: a status, and what is to be written for it.
-fn source_told<S: RunStore + Drop, I: Source>(
+fn source_told<S: RunStore + Drop, F: Follower, I: Source>(
     alloc: Global,
     line: Line,
     source: &mut I,
@@ -74,7 +73,7 @@ fn source_told<S: RunStore + Drop, I: Source>(
     ensures count { I.faults source.old ≤ I.faults source.new }
 {
     match read_all(alloc, source, LONGEST) {
-        Ok(text) => whole_told::<S>(alloc, line, text.as_slice()),
+        Ok(text) => whole_told::<S, F>(alloc, line, text.as_slice()),
         Err(ReadEnd::Fault) => Ok(Telling {
             status: RunStatus::Calm(Status::ReadFault),
             text: Text::Fixed(b"! read fault\n"),
@@ -104,7 +103,7 @@ fn write_told<K: Sink>(sink: &mut K, told: &Telling) -> RunStatus
 }
 
 /// Serves a command line of such a command.
-fn run_main<S: RunStore + Drop, I: Source, K: Sink>(
+fn run_main<S: RunStore + Drop, F: Follower, I: Source, K: Sink>(
     alloc: Global,
     line: Line,
     source: &mut I,
@@ -122,7 +121,7 @@ fn run_main<S: RunStore + Drop, I: Source, K: Sink>(
     ensures write_count { K.faults sink.old ≤ K.faults sink.new }
 {
     an_input_has_one_cause();
-    match source_told::<S, I>(alloc, line, source) {
+    match source_told::<S, F, I>(alloc, line, source) {
         Ok(told) => write_told(sink, &told),
         Err(AllocError) => RunStatus::Calm(Status::Memory),
     }
@@ -132,7 +131,7 @@ fn run_main<S: RunStore + Drop, I: Source, K: Sink>(
 fn runs(command: Command) -> bool
     ensures { result ≡ runs command }
 {
-    matches!(command, Command::Exec | Command::Replay)
+    matches!(command, Command::Exec | Command::Replay | Command::Run)
 }
 
 /// A command line, where it is one of such a command.
@@ -152,8 +151,8 @@ fn run_line(words: &[String]) -> Option<Line>
     }
 }
 
-/// Does what the words ask for, with the bytes that the source gives, and writes to the sink. It serves `exec`, on one
-/// worker and over stores of this kind, and `replay`; all other words go to [`calm_main`] as they are, with what follows a
+/// Does what the words ask for, with the bytes that the source gives, and writes to the sink. It serves `exec` and `run`, on
+/// one worker and over stores of this kind, and `replay`; all other words go to [`calm_main`] as they are, with what follows a
 /// derivation.
 pub fn sepref_main<S: RunStore + Drop, F: Follower, I: Source, K: Sink>(
     alloc: Global,
@@ -165,6 +164,11 @@ pub fn sepref_main<S: RunStore + Drop, F: Follower, I: Source, K: Sink>(
     // written are the lines of the values that its results represent where the left-first run from the beginning on them ended.
     ensures executed { (line : LineOf) → asked words.now ≡ Some line → line.command ≡ Command.Exec → result ≡ RunStatus.Calm Status.Done
         → Went (HasResults line) (I.remaining source.old) (I.remaining source.new) (K.contents sink.old) (K.contents sink.new) }
+    // At status 0 of `run` the bytes that were read are a typed specification with a value for each parameter, and the bytes that
+    // were written are the lines of the values that the results of a program that is right for it represent where the left-first
+    // run from the beginning on them ended.
+    ensures ran { (line : LineOf) → asked words.now ≡ Some line → line.command ≡ Command.Run → result ≡ RunStatus.Calm Status.Done
+        → Went (HasSpecResults line) (I.remaining source.old) (I.remaining source.new) (K.contents sink.old) (K.contents sink.new) }
     // At status 0 of `replay` the bytes that were read are a program with a value for each of its inputs and a schedule, and the
     // bytes that were written are the line of what is told first along the schedule from the beginning on them, with the lines of
     // the values that the results represent where the root ended.
@@ -174,8 +178,8 @@ pub fn sepref_main<S: RunStore + Drop, F: Follower, I: Source, K: Sink>(
     // a write failed.
     ensures told { (text : List ℕ) (line : LineOf) → I.remaining source.old ≡ Some text → length text ≤ longest
         → asked words.now ≡ Some line → line.command ≡ Command.Replay → IsTold line.heap text result }
-    // What `exec` and `replay` wrote is what is due: of a text one of the table `Says`, or the line of a cause, in the order of the
-    // tests; whole, or, where a write failed, a front of it; or, for want of memory, nothing.
+    // What `exec`, `run` and `replay` wrote is what is due: of a text one of the tables `Says` and `SaysRun`, or the line of a
+    // cause, in the order of the tests; whole, or, where a write failed, a front of it; or, for want of memory, nothing.
     ensures wrote { (line : LineOf) → asked words.now ≡ Some line → runs line.command ≡ true
         → Wrote (Due line (I.remaining source.old) (I.remaining source.new)) (K.contents sink.old) (K.contents sink.new) result }
     // Its source is too long exactly where it gave more than 1,048,576 bytes.
@@ -192,7 +196,7 @@ pub fn sepref_main<S: RunStore + Drop, F: Follower, I: Source, K: Sink>(
     ensures write_count { K.faults sink.old ≤ K.faults sink.new }
 {
     match run_line(words) {
-        Some(line) => run_main::<S, I, K>(alloc, line, source, sink),
+        Some(line) => run_main::<S, F, I, K>(alloc, line, source, sink),
         None => RunStatus::Calm(calm_main::<F, I, K>(alloc, words, source, sink)),
     }
 }

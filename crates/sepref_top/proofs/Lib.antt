@@ -1,7 +1,9 @@
 pub mod Firsts
+pub mod Grown
 pub mod Names
 pub mod OneFlat
 pub mod OneSpec
+pub mod Programs
 pub mod Rules
 pub mod Told
 pub mod Tops

@@ -5,6 +5,7 @@ pub mod InputLines
 pub mod Outcome
 pub mod Statuses
 pub mod Synthesis
+pub mod Making
 pub mod Texts
 pub mod TypeLines
 pub mod Verifications

@@ -14,7 +14,7 @@ use target_code::{Name, push_number};
 
 /// Bytes that are to be written.
 #[derive(Drop)]
-pub(crate) enum Text {
+pub enum Text {
     /// A line that is the same whatever the input.
     Fixed(&'static [u8]),
     /// Bytes that were made for the input.
@@ -23,9 +23,11 @@ pub(crate) enum Text {
 
 /// A status with what is to be written for it.
 #[derive(Drop)]
-pub(crate) struct Answer {
-    pub(crate) status: Status,
-    pub(crate) text: Text,
+pub struct Answer {
+    /// The status.
+    pub status: Status,
+    /// The bytes.
+    pub text: Text,
 }
 
 impl Answer {
@@ -41,7 +43,7 @@ impl Answer {
     }
 
     /// The bytes that are to be written.
-    pub(crate) fn bytes(&self) -> &[u8]
+    pub fn bytes(&self) -> &[u8]
         ensures { result.now ≡ bytes_of self.now.text }
     {
         match &self.text {

@@ -3,6 +3,8 @@
 
 mod answer;
 mod evaluation;
+mod making;
+mod reading;
 mod status;
 mod synthesis;
 mod top;
@@ -10,7 +12,8 @@ mod type_line;
 mod verification;
 mod words;
 
-pub use answer::push_fault;
+pub use answer::{Answer, Text, push_fault};
+pub use making::{Runnable, program_for_text};
 pub use status::Status;
 pub use top::calm_main;
 pub use words::{Command, Line, read_words};

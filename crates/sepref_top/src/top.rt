@@ -51,7 +51,7 @@ fn text_answer<F: Follower>(alloc: Global, line: Line, text: &[u8]) -> Result<An
 {
     match line.command {
         Command::Check | Command::Synth | Command::Eval | Command::Run => {
-            spec_answer(alloc, line, text)
+            spec_answer::<F>(alloc, line, text)
         }
         Command::Exec => execution_answer(alloc, text),
         Command::Replay => Ok(Answer::of_line(Status::NotYet)),

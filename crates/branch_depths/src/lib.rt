@@ -1,0 +1,4 @@
+//! How deep forks lie in the left-first run of a branch.
+#![tactic(auto)]
+
+pub mod laws;
