@@ -1,14 +1,12 @@
 -- Programs that are right for a specification: those of the smallest form, and those that were translated and checked.
-use Rattle.std.proofs.Common.{◌≡◌, ℕ, List, [], ◌∷◌, None, Result, Ok, Err, refl, sym, subst}
+use Rattle.std.proofs.Common.{◌≡◌, List, [], ◌∷◌, Option, Some, None, sym, subst}
+use Rattle.std.specs.Prelude.{IfSome}
 use Rattle.fits_promise.specs.Promise.{FitsTyped}
 use Rattle.fits_promise.proofs.Promise.{shape, sound, bounded}
 use Rattle.nres_core.specs.FlatTree.{FlatWhole, flat_whole_of}
-use Rattle.nres_core.specs.Texts.{SpecText}
 use Rattle.nres_core.specs.declared.flat.Flat.{Flat}
 use Rattle.nres_core.specs.declared.tree.Spec.{Spec}
-use Rattle.nres_core.specs.declared.tree.With.{With}
 use Rattle.nres_rules.specs.Identify.{IsFlatOf}
-use Rattle.nres_rules.specs.Types.{refusal_of}
 use Rattle.proof_lines.specs.Lines.{lines_of}
 use Rattle.soundness.specs.Behaviour.{of_spec}
 use Rattle.soundness.specs.Bound.{IsBoundedFor}
@@ -20,19 +18,15 @@ use Rattle.target_code.specs.declared.tree.Program.{Program}
 use Rattle.target_lines.specs.Programs.{program_text}
 use Rattle.sepref_synth.specs.Made.{IsMadeFor}
 use Rattle.sepref_synth.specs.declared.making.Synthesized.{Synthesized}
-use Rattle.sepref_top.specs.Making.{IsMade, SaysProgram, SaysProgramOf, TellsNoProgram, TellsUntyped}
-use Rattle.sepref_top.specs.Synthesis.{IsProgramOf, IsReadSpec, RulesSay, TellsUnmade}
-use Rattle.sepref_top.specs.Texts.{bytes_of}
-use Rattle.sepref_top.specs.declared.answer.Answer.{Answer}
+use Rattle.sepref_top.specs.Making.{IsMade}
+use Rattle.sepref_top.specs.Synthesis.{IsProgramOf, IsReadSpec, RulesSay}
 use Rattle.sepref_top.specs.declared.making.Made.{Made}
-use Rattle.sepref_top.specs.declared.making.Runnable.{Runnable}
-use Rattle.sepref_top.specs.declared.status.Status.{Status}
 use Rattle.sepref_top.specs.declared.status.Status.TheVariants as status
 use Rattle.sepref_top.proofs.Grown.{grown}
 
 -- ---- of the smallest form
 
-pub smallest : (p : Spec) → RulesSay p None → (T : Program) → Formed T → (f : FlatWhole) × IsFlatOf p f × Shape (array_get ∷ []) f T → Sound p T → IsBoundedFor (of_spec p) T → IsProgramOf p T
+smallest : (p : Spec) → RulesSay p None → (T : Program) → Formed T → (f : FlatWhole) × IsFlatOf p f × Shape (array_get ∷ []) f T → Sound p T → IsBoundedFor (of_spec p) T → IsProgramOf p T
 smallest p passes T formed s sound bounded = record {
   flat = s.0;
   passes = passes;
@@ -43,13 +37,21 @@ smallest p passes T formed s sound bounded = record {
   bounded = bounded;
 }
 
-pub with_text : (p : Spec) (T : Program) → IsProgramOf p T → (x : Made) → x.program ≡ T → x.text.items ≡ program_text T → IsMade p x
-with_text p T right x e w = subst (λ (U : Program). x.text.items ≡ program_text U → IsMade p x) e (λ v. record { right = subst (IsProgramOf p) (sym e) right; is_text = v }) w
+with_text : (p : Spec) (T : Program) → IsProgramOf p T → (x : Made) → x.program ≡ T → x.text.items ≡ program_text T → IsMade p x
+with_text p T right x e w = record { right = subst (IsProgramOf p) (sym e) right; is_text = subst (λ (U : Program). x.text.items ≡ program_text U) (sym e) w }
+
+pub small_made : (p : Spec) → RulesSay p None → (o : Option Program) → IfSome o (λ T. Formed T) → IfSome o (λ T. (f : FlatWhole) × IsFlatOf p f × Shape (array_get ∷ []) f T) → IfSome o (λ T. Sound p T)
+    → IfSome o (λ T. IsBoundedFor (of_spec p) T) → (T : Program) → o ≡ Some T → (x : Made) → (x.program ≡ T) × (x.text.items ≡ program_text T) → IsMade p x
+small_made p passes o formed shape sound bounded T e x w =
+    with_text p T
+    (smallest p passes T (subst (λ q. IfSome q (λ T. Formed T)) e formed) (subst (λ q. IfSome q (λ T. (f : FlatWhole) × IsFlatOf p f × Shape (array_get ∷ []) f T)) e shape)
+    (subst (λ q. IfSome q (λ T. Sound p T)) e sound) (subst (λ q. IfSome q (λ T. IsBoundedFor (of_spec p) T)) e bounded))
+    x w.0 w.1
 
 -- ---- translated and checked
 
 module _ (p : Spec) (reads : IsReadSpec p) (passes : RulesSay p None) (flat : Flat) (is : IsFlatOf p (flat_whole_of flat)) where
-  fitted : (x : Synthesized) → IsMadeFor (flat_whole_of flat) x → FitsTyped
+  abbrev fitted : (x : Synthesized) → IsMadeFor (flat_whole_of flat) x → FitsTyped
   fitted x made = record {
     text = reads.text;
     spec = p;
@@ -62,7 +64,7 @@ module _ (p : Spec) (reads : IsReadSpec p) (passes : RulesSay p None) (flat : Fl
     fits = made.fits;
   }
 
-  pub checked : (x : Synthesized) → IsMadeFor (flat_whole_of flat) x → IsProgramOf p x.program
+  checked : (x : Synthesized) → IsMadeFor (flat_whole_of flat) x → IsProgramOf p x.program
   checked x made = record {
     flat = flat_whole_of flat;
     passes = passes;
@@ -73,46 +75,7 @@ module _ (p : Spec) (reads : IsReadSpec p) (passes : RulesSay p None) (flat : Fl
     bounded = bounded (fitted x made);
   }
 
--- ---- of a text
-
-module _ (text : List ℕ) (p : Spec) (ws : List With) (reads : SpecText text p ws) (typed : refusal_of p ≡ None) where
-  unmade : (s : Status) (output : List ℕ) → TellsUnmade p s output → TellsNoProgram text s output
-  unmade status.NoRule output t = record { spec = p; withs = ws; reads = reads; typed = typed; holds = t }
-  unmade status.NotYet output t = record { spec = p; withs = ws; reads = reads; typed = typed; holds = t }
-  unmade status.Done output t = absurd t
-  unmade (status.Syntax q) output t = absurd t
-  unmade (status.TooDeep q) output t = absurd t
-  unmade status.Type_ output t = absurd t
-  unmade status.Input output t = absurd t
-  unmade (status.NotProgram k) output t = absurd t
-  unmade (status.Fails l) output t = absurd t
-  unmade (status.OutOfTurns l) output t = absurd t
-  unmade (status.NoProof l) output t = absurd t
-  unmade status.Usage output t = absurd t
-  unmade status.TooLong output t = absurd t
-  unmade status.ReadFault output t = absurd t
-  unmade status.WriteFault output t = absurd t
-  unmade status.Memory output t = absurd t
-
-  pub of_text : (r : Result Runnable Answer) → SaysProgramOf p ws r → SaysProgram text r
-  of_text (Ok x) h = record { spec = p; reads = subst (λ vs. SpecText text p vs) (sym h.1) reads; typed = typed; right = h.0 }
-  of_text (Err a) h = unmade a.status (bytes_of a.text) h
-
--- what tells why a text is no typed specification tells why no program is given for it
-pub untyped : (text : List ℕ) (s : Status) (output : List ℕ) → TellsUntyped text s output → TellsNoProgram text s output
-untyped text (status.Syntax q) output t = t
-untyped text (status.TooDeep q) output t = t
-untyped text status.Type_ output t = t
-untyped text status.NoRule output t = absurd t
-untyped text status.NotYet output t = absurd t
-untyped text status.Done output t = absurd t
-untyped text status.Input output t = absurd t
-untyped text (status.NotProgram k) output t = absurd t
-untyped text (status.Fails l) output t = absurd t
-untyped text (status.OutOfTurns l) output t = absurd t
-untyped text (status.NoProof l) output t = absurd t
-untyped text status.Usage output t = absurd t
-untyped text status.TooLong output t = absurd t
-untyped text status.ReadFault output t = absurd t
-untyped text status.WriteFault output t = absurd t
-untyped text status.Memory output t = absurd t
+  pub checked_made : (o : Option Synthesized) → IfSome o (λ x. IsMadeFor (flat_whole_of flat) x) → (x : Synthesized) → o ≡ Some x → IsMade p (record { program = x.program; text = x.text })
+  checked_made o made x e =
+      let m : IsMadeFor (flat_whole_of flat) x = subst (λ q. IfSome q (λ x. IsMadeFor (flat_whole_of flat) x)) e made in
+      record { right = checked x m; is_text = m.read.is_text }

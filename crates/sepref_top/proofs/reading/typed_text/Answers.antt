@@ -17,8 +17,8 @@ returns-in-Err-TooDeep c = record {
   written = c.in_ok-place_line-in-Err-TooDeep.ensures;
 }
 
-pub returns : goal.returns
-returns c =
+pub returns-in_ok-type_line-in-Err : goal.returns-in_ok-type_line-in-Err
+returns-in_ok-type_line-in-Err c =
     told.told_fault c.args.text.now c.in-Err.refusal _
     (record { spec = c.in-Ok.found.0; withs = c.in-Ok.found.1; reads = c.in-Ok.ensures.ok; told = c.in-Err.ensures.refused; real = c.in_ok-type_line-in-Err.ensures.real })
     (c.from_vec.ensures ∙ c.in_ok-type_line-in-Err.ensures.line)
