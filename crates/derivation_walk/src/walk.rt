@@ -14,20 +14,20 @@ use target_code::Program;
 /// Follows derivations of specifications without branches, bind by bind.
 pub struct DerivationWalk;
 
-/// The line, counted from 1, behind those that were found, where these lines are left of so many.
-fn unmet_line(count: usize, left: &[ProofLine]) -> u64
-    ensures { result ≡ suc (count - length left.now) }
+/// The line, counted from 1, behind those that were found, where these are left of all lines.
+fn unmet_line(lines: &[ProofLine], left: &[ProofLine]) -> u64
+    ensures { result ≡ suc (length lines.now - length left.now) }
 {
-    count.saturating_sub(left.len()) as u64 + 1
+    lines.len().saturating_sub(left.len()) as u64 + 1
 }
 
-/// What following so many lines came to.
-fn followed(count: usize, said: Result<u64, Unmet<'_>>) -> Followed
-    ensures { result ≡ followed_as count said.entry }
+/// What following lines came to.
+fn followed(lines: &[ProofLine], said: Result<u64, Unmet<'_>>) -> Followed
+    ensures { result ≡ followed_as (length lines.now) said.entry }
 {
     match said {
         Ok(branches) => Followed::Found(branches),
-        Err(unmet) => Followed::Unmet(unmet_line(count, unmet.lines)),
+        Err(unmet) => Followed::Unmet(unmet_line(lines, unmet.lines)),
     }
 }
 
@@ -39,6 +39,6 @@ impl Follower for DerivationWalk {
         lines: &[ProofLine],
     ) -> Result<Followed, AllocError> {
         let said = follow_whole(alloc, flat, program.procs.as_slice(), lines)?;
-        Ok(followed(lines.len(), said))
+        Ok(followed(lines, said))
     }
 }

@@ -1,0 +1,5 @@
+pub mod Sums
+pub mod Parted
+pub mod Moves
+pub mod Cut
+pub mod Dealt

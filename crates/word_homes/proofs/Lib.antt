@@ -1,0 +1,3 @@
+mod PutsLemmas
+mod SpanLemmas
+mod WordsLemmas
