@@ -20,12 +20,12 @@ const SYNTHESES: [(&str, u8, &str); 10] = [
         ONE_PROGRAM,
     ),
     (
-        "spec one () : nat\n  return 1 + 1\nend\n",
+        "spec two (xs: list as array kept) : (nat, nat)\n  (a, b) <- par\n    x <- get xs 0\n    return x\n  and\n    y <- get xs 1\n    return y\n  end\n  return (a, b)\nend\n",
         40,
         "! not yet\n",
     ),
     (
-        "spec first (xs: list as array) : nat\n  x <- get xs 0\n  return x\nend\n",
+        "spec halves (xs: list as array) : list as array\n  ys <- split xs at 1 left a\n    return a\n  right b\n    return b\n  end\n  return ys\nend\n",
         40,
         "! not yet\n",
     ),
