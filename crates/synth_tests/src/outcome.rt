@@ -1,5 +1,7 @@
 //! Runs of the program in memory, and what they write.
 
+ghost use Rattle.std.specs.Prelude.{◌≤◌};
+
 use derivation_walk::DerivationWalk;
 use plain_store::memory::PlainStore;
 use sep_io::{MemSink, MemSource};
@@ -21,7 +23,10 @@ pub(crate) fn ended(
     input: Vec<u8>,
     most: (usize, usize),
     fails: (u64, u64),
-) -> Result<(u8, Vec<u8>), Fail> {
+) -> Result<(u8, Vec<u8>), Fail>
+    requires reads { 1 ≤ most.0 }
+    requires writes { 1 ≤ most.1 }
+{
     let mut words = Vec::new(alloc);
     words.push(String::from_str(alloc, word)?)?;
     let mut source = MemSource::new(input, most.0, Vec::from_slice(alloc, &[fails.0])?);

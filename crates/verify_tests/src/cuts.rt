@@ -7,13 +7,13 @@ use std::test::Fail;
 
 /// How long the first lines are.
 fn end_of_lines(bytes: &[u8], count: usize) -> usize {
-    let mut lines = 0;
+    let mut lines: usize = 0;
     for (at, byte) in bytes.iter().enumerate() {
         if lines == count {
             return at;
         }
         if *byte == b'\n' {
-            lines += 1;
+            lines = lines.wrapping_add(1);
         }
     }
     bytes.len()
@@ -21,10 +21,10 @@ fn end_of_lines(bytes: &[u8], count: usize) -> usize {
 
 /// How many lines there are.
 fn line_count(bytes: &[u8]) -> usize {
-    let mut lines = 0;
+    let mut lines: usize = 0;
     for byte in bytes {
         if *byte == b'\n' {
-            lines += 1;
+            lines = lines.wrapping_add(1);
         }
     }
     lines
